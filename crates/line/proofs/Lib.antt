@@ -1,0 +1,20 @@
+-- The laws of the line, a file a subject.
+pub mod Bools
+pub mod Ways
+pub mod Sums
+pub mod WayPrice
+pub mod Lattice
+pub mod Index
+pub mod WayFlow
+pub mod Push
+pub mod Path
+pub mod Price
+pub mod Cheap
+pub mod Steps
+pub mod Duality
+pub mod Turn
+pub mod Search
+pub mod Tree
+pub mod Area
+pub mod Small
+pub mod Tests

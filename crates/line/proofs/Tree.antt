@@ -1,0 +1,175 @@
+-- A search tree: each module that the search has reached, and that is no meter, has the step `up` by which it was reached, from a module of lower rank. With a
+-- maker in the tree, the walk up from it is a path that can be pushed (`tree-fair`, `tree-value`). The room of a net is used from one of its pins alone,
+-- its opener: so no two steps of a walk use it. Assumes nothing.
+use mathlib.Core.Path.{_≡_, refl, sym, ap, _∙_}
+use mathlib.Core.Logic.{_≢_, _⊎_, inl, inr}
+use mathlib.Core.Bool.{Bool, true, false, not, cond}
+use mathlib.Core.List.{List, [], _∷_, List·Memᴰ, List·Memᴰ·head, List·Memᴰ·tail}
+use Prim.Native.Nat.{ℕ, zero, suc, _+_, _≤_, _<_}
+use native.Mathlib.Omega.{arith}
+use native.Mathlib.Nat.{not-suc-le-zero, le-of-suc-le-suc}
+use lib.IntN.{ℤ, pos}
+use lib.ListN.{length, getD}
+use lib.Dec.{T, eqb, eqb→eq, T-not}
+use Rattle.line.specs.Card.{Card, Side, either, allPins, Separates}
+use Rattle.line.specs.Flow.{only, meters, value}
+use Rattle.line.proofs.Ways.{Ways, FairBy, priceBy}
+use Rattle.line.proofs.WayFlow.{Valid}
+use Rattle.line.proofs.Index.{netAt, start, start-in, pin-at}
+use Rattle.line.proofs.Path.{Step, pinOf, tail, head, Sound, Spare, Apart, AllOf, Pairwise, LeadsBack, Ready, pushAll, least, augment-fair, augment-more}
+use Rattle.line.proofs.Search.{tree-apart, augment-now, augment-below}
+use Rattle.line.proofs.Bools.{or-split, or-l}
+
+-- ---- the pins of a valid card name modules
+
+getD-mem : (ps : List ℕ) (i : ℕ) → i < length ps → List·Memᴰ (getD ps i 0) ps
+getD-mem [] i l = absurd (not-suc-le-zero l)
+getD-mem (p ∷ ps) zero l = List·Memᴰ·head refl
+getD-mem (p ∷ ps) (suc i) l = List·Memᴰ·tail (getD-mem ps i (le-of-suc-le-suc l))
+
+pub pin-module : (c : Card) → Valid c → (e i : ℕ) → e < length (c .nets) → i < length (netAt (c .nets) e .pins) → pinOf c e i < c .modules
+pin-module c v e i l k =
+    v .pins (pinOf c e i) (rw (pin-at (c .nets) e l i k) at (getD-mem (allPins (c .nets)) (start (c .nets) e + i) (omega (arith, start-in (c .nets) e l))))
+
+-- the meters alone separate: a bound for every flow
+pub meters-separate : (c : Card) → Separates c (meters c)
+meters-separate c = record { meters = λ m l e. rw e tt; makers = λ m l e. rw e tt }
+
+-- ---- trees
+
+pub record Twig (w : Ways) (c : Card) (xs : List ℤ) (rank opener : ℕ → ℕ) (x : Side) (m : ℕ) (t : Step) : Type 0 where
+  pub sound : Sound w c t
+  pub spare : Spare c xs 1 t
+  pub to : head c t ≡ m
+  pub from : T (x (tail c t))
+  pub lower : rank (tail c t) < rank m
+  pub opened : T (not (t .undoA)) → T (not (t .undoB)) → t .a ≡ opener (t .net)
+
+abbrev pub Tree : Ways → Card → List ℤ → (ℕ → ℕ) → (ℕ → ℕ) → (ℕ → Step) → Side → Type 0
+Tree w c xs rank opener up x = (m : ℕ) → m < c .modules → T (x m) → c .mark m ≢ 1 → Twig w c xs rank opener x m (up m)
+
+pub tree-start : (w : Ways) (c : Card) (xs : List ℤ) (rank opener : ℕ → ℕ) (up : ℕ → Step) → Tree w c xs rank opener up (meters c)
+tree-start w c xs rank opener up m l t n = absurd (n (eqb→eq (c .mark m) 1 t))
+
+-- one module more: v, by the step up′ v. Ranks, openers and steps stay what they were where they are used
+pub tree-add : (w : Ways) (c : Card) (xs : List ℤ) (rank opener : ℕ → ℕ) (up : ℕ → Step) (x : Side) (rank′ opener′ : ℕ → ℕ) (up′ : ℕ → Step) (v : ℕ) → Valid c →
+    Tree w c xs rank opener up x → Twig w c xs rank′ opener′ x v (up′ v) →
+    ((m : ℕ) → m < c .modules → T (x m) → rank′ m ≡ rank m) → ((m : ℕ) → m < c .modules → T (x m) → up′ m ≡ up m) →
+    ((m : ℕ) → m < c .modules → T (x m) → c .mark m ≢ 1 → T (not (up m .undoA)) → T (not (up m .undoB)) → opener′ (up m .net) ≡ opener (up m .net)) →
+    Tree w c xs rank′ opener′ up′ (either x (only v))
+tree-add w c xs rank opener up x rank′ opener′ up′ v valid tree g ranks ups openers m l i n = go (or-split (x m) (eqb m v) i)
+  where
+    wide : (t : Step) (k : ℕ) → Twig w c xs rank′ opener′ x k t → Twig w c xs rank′ opener′ (either x (only v)) k t
+    wide t k q = record { sound = q .sound; spare = q .spare; to = q .to; from = or-l (x (tail c t)) (eqb (tail c t) v) (q .from); lower = q .lower; opened = q .opened }
+
+    old : T (x m) → Twig w c xs rank opener x m (up m) → Twig w c xs rank′ opener′ x m (up m)
+    old a q = record {
+      sound = q .sound;
+      spare = q .spare;
+      to = q .to;
+      from = q .from;
+      lower = omega (arith, q .lower, ranks m l a, ranks (tail c (up m)) (pin-module c valid (up m .net) (up m .a) (q .sound .net) (q .sound .a)) (q .from));
+      opened = λ y z. q .opened y z ∙ sym (openers m l a n y z);
+    }
+
+    go : T (x m) ⊎ T (eqb m v) → Twig w c xs rank′ opener′ (either x (only v)) m (up′ m)
+    go (inl a) = rw (ups m l a) (wide (up m) m (old a (tree m l a n)))
+    go (inr a) = rw (eqb→eq m v a) (wide (up′ v) v g)
+
+-- ---- the walk up from m, in at most k steps
+
+unfoldable pub walk : Card → (ℕ → Step) → ℕ → ℕ → List Step
+walk c up zero m = []
+walk c up (suc k) m = cond (eqb (c .mark m) 1) [] (up m ∷ walk c up k (tail c (up m)))
+
+no-meter : (k : ℕ) → T (not (eqb k 1)) → k ≢ 1
+no-meter k t e = T-not (eqb k 1) t (rw e tt)
+
+module _ (w : Ways) (c : Card) (valid : Valid c) (xs : List ℤ) (rank opener : ℕ → ℕ) (up : ℕ → Step) (x : Side) (tree : Tree w c xs rank opener up x) where
+  below : (m : ℕ) → Twig w c xs rank opener x m (up m) → tail c (up m) < c .modules
+  below m g = pin-module c valid (up m .net) (up m .a) (g .sound .net) (g .sound .a)
+
+  -- it leads from a meter to m
+  pub walk-leads : (k m : ℕ) → m < c .modules → T (x m) → rank m < k → (h : ℕ) × (c .mark h ≡ 1) × LeadsBack c h (walk c up k m) m
+  unfolding walk LeadsBack
+  walk-leads zero m l i r = absurd (not-suc-le-zero r)
+  walk-leads (suc k) m l i r =
+      go (eqb (c .mark m) 1) (eqb→eq (c .mark m) 1) (λ t. tree m l i (no-meter (c .mark m) t))
+      (λ g. walk-leads k (tail c (up m)) (below m g) (g .from) (omega (arith, g .lower)))
+    where
+      go : (b : Bool) → (T b → c .mark m ≡ 1) → (T (not b) → Twig w c xs rank opener x m (up m)) →
+          (Twig w c xs rank opener x m (up m) → (h : ℕ) × (c .mark h ≡ 1) × LeadsBack c h (walk c up k (tail c (up m))) (tail c (up m))) →
+          (h : ℕ) × (c .mark h ≡ 1) × LeadsBack c h (cond b [] (up m ∷ walk c up k (tail c (up m)))) m
+      go true e g f = (m, e tt, refl)
+      go false e g f = let r = f (g tt) in (r .0, r .1, (g tt .to, r .2))
+
+  -- what is true of each step of a walk
+  walk-all : (P : Step → Type 0) (n : ℕ) → ((m : ℕ) → m < c .modules → T (x m) → c .mark m ≢ 1 → rank m ≤ n → Twig w c xs rank opener x m (up m) → P (up m)) →
+      (k m : ℕ) → m < c .modules → T (x m) → rank m ≤ n → AllOf P (walk c up k m)
+  unfolding walk AllOf
+  walk-all P n h zero m l i r = tt
+  walk-all P n h (suc k) m l i r =
+      go (eqb (c .mark m) 1) (λ t. h m l i (no-meter (c .mark m) t) r) (λ t. tree m l i (no-meter (c .mark m) t))
+      (λ g. walk-all P n h k (tail c (up m)) (below m g) (g .from) (omega (arith, g .lower)))
+    where
+      go : (b : Bool) → (T (not b) → Twig w c xs rank opener x m (up m) → P (up m)) → (T (not b) → Twig w c xs rank opener x m (up m)) →
+          (Twig w c xs rank opener x m (up m) → AllOf P (walk c up k (tail c (up m)))) → AllOf P (cond b [] (up m ∷ walk c up k (tail c (up m))))
+      go true e g f = tt
+      go false e g f = (e tt (g tt), f (g tt))
+
+  -- steps further up are apart: their modules have lower ranks
+  walk-apart : (m : ℕ) → Twig w c xs rank opener x m (up m) → (k : ℕ) → AllOf (Apart (up m)) (walk c up k (tail c (up m)))
+  walk-apart m g k =
+      walk-all (Apart (up m)) (rank (tail c (up m)))
+      (λ u l i n r q.
+      tree-apart c opener (up m) (up u)
+      (λ e. absurd (omega (arith, ap rank e, q .lower, r)))
+      (λ e. absurd (omega (arith, ap rank (sym (g .to) ∙ e ∙ q .to), g .lower, r)))
+      (g .opened) (q .opened))
+      k (tail c (up m)) (below m g) (g .from) (omega arith)
+
+  walk-pairwise : (k m : ℕ) → m < c .modules → T (x m) → Pairwise (walk c up k m)
+  unfolding walk Pairwise
+  walk-pairwise zero m l i = tt
+  walk-pairwise (suc k) m l i =
+      go (eqb (c .mark m) 1) (λ t. tree m l i (no-meter (c .mark m) t)) (λ g. walk-pairwise k (tail c (up m)) (below m g) (g .from))
+    where
+      go : (b : Bool) → (T (not b) → Twig w c xs rank opener x m (up m)) → (Twig w c xs rank opener x m (up m) → Pairwise (walk c up k (tail c (up m)))) →
+          Pairwise (cond b [] (up m ∷ walk c up k (tail c (up m))))
+      go true g f = tt
+      go false g f = (walk-apart m (g tt) k, f (g tt))
+
+  pub walk-ready : (k m : ℕ) → m < c .modules → T (x m) → length (allPins (c .nets)) ≤ length xs → Ready w c xs 1 (walk c up k m)
+  walk-ready k m l i long = record {
+    long = long;
+    sound = walk-all (Sound w c) (rank m) (λ _ _ _ _ _ g. g .sound) k m l i (omega arith);
+    spare = walk-all (Spare c xs 1) (rank m) (λ _ _ _ _ _ g. g .spare) k m l i (omega arith);
+    apart = walk-pairwise k m l i;
+  }
+
+  -- ---- a maker u in the tree
+
+  module _ (f : FairBy w c xs) (long : length (allPins (c .nets)) ≤ length xs) (top : ℕ) (cap : 1 ≤ top)
+      (k u : ℕ) (lu : u < c .modules) (iu : T (x u)) (maker : c .mark u ≡ 2) (deep : rank u < k) where
+    abbrev path : List Step
+    path = walk c up k u
+
+    abbrev most : ℕ
+    most = least c xs top path
+
+    ready : Ready w c xs 1 path
+    ready = walk-ready k u lu iu long
+
+    pub tree-more : 0 < most
+    tree-more = let r = walk-leads k u lu iu deep in augment-more w c xs top path f ready cap (r .0) u (inr (r .2)) (r .1) maker
+
+    pub tree-fair : FairBy w c (pushAll c xs most path)
+    tree-fair = let r = walk-leads k u lu iu deep in augment-fair w c xs top path f ready cap (r .0) u (inr (r .2)) (r .1) maker
+
+    pub tree-value : (v : ℕ) → value c xs ≡ pos v → value c (pushAll c xs most path) ≡ pos (v + most)
+    tree-value v e = let r = walk-leads k u lu iu deep in augment-now w c valid xs top path f ready cap (r .0) u (inr (r .2)) (r .1) maker v e
+
+    -- the rounds end: no value passes the price of the meters alone
+    pub tree-below : (v : ℕ) → value c xs ≡ pos v → v + most ≤ priceBy w (c .nets) (meters c)
+    tree-below v e =
+        let r = walk-leads k u lu iu deep in augment-below w c valid xs top path f ready cap (r .0) u (inr (r .2)) (r .1) maker v e (meters c) (meters-separate c)

@@ -1,0 +1,1 @@
+// The page of meanings stands in specs/, and the laws of the line in proofs/.
