@@ -2,8 +2,9 @@
 ghost use mathlib.Core.Path.{_≡_};
 ghost use Prim.Native.Nat.{ℕ, _+_, _*_, _<_, _≤_};
 ghost use lib.ListN.{length, getD};
-ghost use Rattle.book.specs.Format.{u16, u32, field, entryIs, laid, Laid, modules, nets, pins, area, mark, weight, pinCount, pin, firstPin};
-ghost use Rattle.book.specs.Steps.{stepBy, numberIn};
+ghost use Rattle.book.specs.Format.{u16, u32, field, laid, Laid, modules, nets, pins, area, mark, weight, pinCount, pin, firstPin};
+ghost use Rattle.book.specs.Steps.{stepBy, stepEntry, numberIn};
+ghost use Rattle.book.specs.Answer.{numberOf, placeOf};
 ghost use Rattle.book.specs.Checks.{badModule, badNet, badPin, counted, check3, check4, check5, lacks, restOf, readOf, mostNets, mostPins};
 
 // The counts of a book, and the largest numbers of every book.
@@ -46,6 +47,52 @@ pub enum Refusal {
     ModuleRule(usize),
     Values,
     Stuck,
+}
+
+impl Refusal {
+    // Its number in document 01.
+    pub fn number(self) -> usize
+        ensures { λ r. ⌜ r ≡ numberOf self ⌝ }
+    {
+        match self {
+            Refusal::Layout => 1,
+            Refusal::Counts => 2,
+            Refusal::Module(_) => 3,
+            Refusal::Net(_) => 4,
+            Refusal::Pin(_) => 5,
+            Refusal::Marks => 6,
+            Refusal::Gate => 7,
+            Refusal::Buffer => 8,
+            Refusal::Side => 9,
+            Refusal::Move => 10,
+            Refusal::NetRule(_) => 11,
+            Refusal::ModuleRule(_) => 12,
+            Refusal::Values => 13,
+            Refusal::Stuck => 14,
+        }
+    }
+
+    // Its place, 0 where it has none.
+    pub fn place(self) -> usize
+        ensures { λ r. ⌜ r ≡ placeOf self ⌝ }
+    {
+        match self {
+            Refusal::Layout => 0,
+            Refusal::Counts => 0,
+            Refusal::Module(m) => m,
+            Refusal::Net(n) => n,
+            Refusal::Pin(p) => p,
+            Refusal::Marks => 0,
+            Refusal::Gate => 0,
+            Refusal::Buffer => 0,
+            Refusal::Side => 0,
+            Refusal::Move => 0,
+            Refusal::NetRule(n) => n,
+            Refusal::ModuleRule(m) => m,
+            Refusal::Values => 0,
+            Refusal::Stuck => 0,
+        }
+    }
 }
 
 // The answer of the reader.
@@ -134,30 +181,44 @@ pub fn u32_at(book: &[u8], i: usize) -> usize
     }
 }
 
-fn entry_is(book: &[u8], at: usize, kind: usize, start: usize, unit: usize) -> bool
-    requires { ⌜ (at + 10 ≤ length (now book)) × (0 < unit) ⌝ }
-    ensures { λ r. ⌜ r ≡ entryIs (now (book .entry)) at kind start unit ⌝ }
+// Over an entry of the contents that names this kind, starts its body here and has whole records of `unit` bytes: the number is where the body ends.
+fn entry(book: &[u8], here: Cursor, kind: usize, start: usize, unit: usize) -> Step
+    requires { ⌜ (start ≤ 17179869184) × (0 < unit) ⌝ }
+    ensures { λ r. ⌜ (r ≡ stepEntry (now (book .entry)) (here .at) kind start unit) × (numberIn r ≤ start + 4294967295) ⌝ }
 {
-    (u16_at(book, at) == kind)
-        & (u32_at(book, at + 2) == start)
-        & (u32_at(book, at + 6) % unit == 0)
+    let Step::Number(k, c) = here.next_u16(book) else {
+        return Step::End;
+    };
+    let Step::Number(at, d) = c.next_u32(book) else {
+        return Step::End;
+    };
+    let Step::Number(bytes, next) = d.next_u32(book) else {
+        return Step::End;
+    };
+    if (k == kind) & (at == start) & (bytes % unit == 0) {
+        return Step::Number(start + bytes, next);
+    }
+    Step::End
 }
 
 // Check 1.
 fn is_laid(book: &[u8]) -> bool
     ensures { λ r. ⌜ r ≡ laid (now (book .entry)) ⌝ }
 {
-    if book.len() < 32 {
+    let here = Book::start();
+    let Step::Number(count, first) = here.next_u16(book) else {
         return false;
-    }
-    let second = 32 + u32_at(book, 8);
-    let third = second + u32_at(book, 18);
-    let end = third + u32_at(book, 28);
-    (u16_at(book, 0) == 3)
-        & entry_is(book, 2, 1, 32, 4)
-        & entry_is(book, 12, 2, second, 4)
-        & entry_is(book, 22, 3, third, 2)
-        & (end == book.len())
+    };
+    let Step::Number(second_body, second) = entry(book, first, 1, 32, 4) else {
+        return false;
+    };
+    let Step::Number(third_body, third) = entry(book, second, 2, second_body, 4) else {
+        return false;
+    };
+    let Step::Number(end, _) = entry(book, third, 3, third_body, 2) else {
+        return false;
+    };
+    (count == 3) & (end == book.len())
 }
 
 // How many modules a book has.

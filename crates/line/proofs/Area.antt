@@ -1,10 +1,10 @@
--- The area of a side. Where every module has some, a side inside another has less area, unless they are one: so the near side is the cheapest side of least
--- area, and the least copies inside all others are those of least area. Assumes nothing.
+-- A side inside another has no more area, and less where areas are positive, unless they are one: so the near side is the one cheapest side of least area.
+-- Assumes nothing.
 use mathlib.Core.Path.{_≡_, refl}
 use mathlib.Core.Bool.{Bool, true, false, not, cond}
-use Prim.Native.Nat.{ℕ, zero, suc, _+_, _*_, _≤_, _<_}
+use Prim.Native.Nat.{ℕ, zero, suc, _+_, _≤_, _<_}
 use native.Mathlib.Omega.{arith}
-use native.Mathlib.Nat.{not-suc-le-zero, mul-suc}
+use native.Mathlib.Nat.{not-suc-le-zero}
 use native.Mathlib.Decide.{ℕ-discrete}
 use lib.Dec.{T}
 use Rattle.line.specs.Card.{Card, Side, Cheapest, Near, Alike, areaTo, countTo}
@@ -16,7 +16,7 @@ module _ (area : ℕ → ℕ) (s t : Side) where
   area-inside zero h = omega arith
   area-inside (suc k) h = omega (arith, cond-le (area k) (s k) (t k) (h k (omega arith)), area-inside k (λ m l. h m (omega arith)))
 
-  pub area-same : (k : ℕ) → ((m : ℕ) → m < k → 0 < area m) → ((m : ℕ) → m < k → T (s m) → T (t m)) → areaTo area t k ≤ areaTo area s k → (m : ℕ) → m < k → s m ≡ t m
+  pub area-same : (k : ℕ) → ((m : ℕ) → m < k → 0 < area m) → ((m : ℕ) → m < k → T (s m) → T (t m)) → areaTo area t k ≤ areaTo area s k → Alike k s t
   unfolding areaTo
   area-same zero p h e m l = absurd (not-suc-le-zero l)
   area-same (suc k) p h e m l = go (ℕ-discrete m k) (area-same k (λ m l. p m (omega arith)) (λ m l. h m (omega arith)) (omega (arith, cond-le (area k) (s k) (t k) (h k (omega arith)))))
@@ -41,17 +41,6 @@ areaTo-same area s t (suc n) e = rw (areaTo-same area s t n (λ m l. e m (omega 
 pub areaTo-most : (area : ℕ → ℕ) (s : Side) (n : ℕ) → areaTo area s n ≤ areaTo area (λ m. true) n
 areaTo-most area s n = area-inside area s (λ m. true) n (λ m l t. tt)
 
--- and where no area is above top, at most top for each module
-pub areaTo-bound : (area : ℕ → ℕ) (top : ℕ) (s : Side) (n : ℕ) → ((m : ℕ) → m < n → area m ≤ top) → areaTo area s n ≤ top * n
-unfolding areaTo
-areaTo-bound area top s zero h = omega arith
-areaTo-bound area top s (suc n) h =
-    omega (arith, areaTo-bound area top s n (λ m l. h m (omega arith)), h n (omega arith), at (s n), mul-suc top n)
-  where
-    at : (b : Bool) → cond b (area n) 0 ≤ area n
-    at true = omega arith
-    at false = omega arith
-
 -- a side inside another that lacks a module of it has fewer
 pub count-less : (s t : Side) (n m : ℕ) → ((i : ℕ) → T (s i) → T (t i)) → m < n → T (t m) → T (not (s m)) → countTo s n < countTo t n
 unfolding areaTo
@@ -67,9 +56,11 @@ count-less s t (suc n) m f l i o = go (ℕ-discrete m n) (count-less s t n m f)
     go (yes e) r = omega (arith, area-inside (λ m. 1) s t n (λ i _. f i), last (s n) (t n) (rw e at i) (rw e at o))
     go (no e) r = omega (arith, r (omega arith) i o, cond-le 1 (s n) (t n) (f n))
 
-module _ (c : Card) (area : ℕ → ℕ) (some : (m : ℕ) → m < c .modules → 0 < area m) (s t : Side) where
-  pub near-area : Near c s → Cheapest c t → areaTo area s (c .modules) ≤ areaTo area t (c .modules)
-  near-area p q = area-inside area s t (c .modules) (p .inside t q)
+-- ---- the near side is the only cheapest side of least area
 
-  pub near-area-one : Near c s → Cheapest c t → areaTo area t (c .modules) ≤ areaTo area s (c .modules) → (m : ℕ) → m < c .modules → s m ≡ t m
-  near-area-one p q = area-same area s t (c .modules) some (p .inside t q)
+module _ (c : Card) (area : ℕ → ℕ) (s t : Side) (p : Near c s) (q : Cheapest c t) where
+  pub near-area : areaTo area s (c .modules) ≤ areaTo area t (c .modules)
+  near-area = area-inside area s t (c .modules) (p .inside t q)
+
+  pub near-area-one : ((m : ℕ) → m < c .modules → 0 < area m) → areaTo area t (c .modules) ≤ areaTo area s (c .modules) → Alike (c .modules) s t
+  near-area-one some = area-same area s t (c .modules) some (p .inside t q)

@@ -1,4 +1,5 @@
--- The nets by number: where a net's pins begin, its own numbers of a flow, and what a loop over the nets asks of `EachNet`, `EachBy`, `allPins` and `price`. Assumes nothing.
+-- What holds of each net and its numbers (`EachNet`, `EachBy`) holds of net e and the numbers that stand where its pins begin, and back; prices and sums grow by one net,
+-- pin or number as a loop goes. Assumes nothing.
 use mathlib.Core.Path.{_≡_, refl, sym}
 use mathlib.Core.List.{List, [], _∷_, _++_}
 use Prim.Native.Nat.{ℕ, zero, suc, _+_, _≤_, _<_}
@@ -7,10 +8,10 @@ use native.Mathlib.Nat.{le-of-suc-le-suc, not-suc-le-zero, zero-add, add-assoc}
 use lib.IntN.{ℤ, pos}
 use lib.ListN.{length, take, drop, getD, length-append, List·getD-append}
 use lib.Seq.{drop-drop, getD-append-add, take-suc}
-use mathlib.Core.Bool.{Bool, _&&_, _||_, or-false, or-assoc}
+use mathlib.Core.Bool.{_||_, or-false, or-assoc}
 use Rattle.line.specs.Card.{Net, Side, touches, cost, price, allPins}
 use Rattle.line.specs.Flow.{EachNet, sent, totalSent}
-use Rattle.line.proofs.Ways.{Ways, later, meets, costBy, priceBy, EachBy}
+use Rattle.line.proofs.Ways.{EachBy}
 
 abbrev pub noNet : Net
 noNet = record { weight = 0; pins = [] }
@@ -108,22 +109,7 @@ totalSent-suc [] i l = absurd (not-suc-le-zero l)
 totalSent-suc (x ∷ xs) zero l = omega arith
 totalSent-suc (x ∷ xs) (suc i) l = omega (arith, totalSent-suc xs i (le-of-suc-le-suc l))
 
--- the same by ways
-pub priceBy-suc : (w : Ways) (ns : List Net) (s : Side) (e : ℕ) → e < length ns →
-    priceBy w (take (suc e) ns) s ≡ priceBy w (take e ns) s + costBy (w .sends e) (w .takes e) s (netAt ns e)
-unfolding priceBy
-priceBy-suc w [] s e l = absurd (not-suc-le-zero l)
-priceBy-suc w (n ∷ ns) s zero l = omega arith
-priceBy-suc w (n ∷ ns) s (suc e) l = omega (arith, priceBy-suc (later w) ns s e (le-of-suc-le-suc l))
-
 -- one pin more
-pub meets-suc : (r : ℕ → Bool) (s : Side) (ps : List ℕ) (i : ℕ) → i < length ps → meets r s (take (suc i) ps) ≡ (meets r s (take i ps) || (r i && s (getD ps i 0)))
-unfolding meets
-meets-suc r s [] i l = absurd (not-suc-le-zero l)
-meets-suc r s (p ∷ ps) zero l = or-false (r 0 && s p)
-meets-suc r s (p ∷ ps) (suc i) l =
-    rw (meets-suc (λ k. r (suc k)) s ps i (le-of-suc-le-suc l)) (sym (or-assoc (r 0 && s p) (meets (λ k. r (suc k)) s (take i ps)) (r (suc i) && s (getD ps i 0))))
-
 pub touches-suc : (s : Side) (ps : List ℕ) (i : ℕ) → i < length ps → touches s (take (suc i) ps) ≡ (touches s (take i ps) || s (getD ps i 0))
 unfolding touches
 touches-suc s [] i l = absurd (not-suc-le-zero l)

@@ -1,14 +1,45 @@
--- The sides of least f, for any submodular f: closed under both and either; the near side, of which there is one; what pinning does to it. Assumes nothing.
-use mathlib.Core.Path.{_≡_, refl}
+-- The sides of least f, for any submodular f: closed under both and either; one near side and one far side; and what pinning does to them. Assumes nothing.
+use mathlib.Core.Path.{_≡_, refl, sym}
 use mathlib.Core.Bool.{Bool, true, false, not, cond, _&&_}
 use Prim.Native.Nat.{ℕ, _+_, _≤_, _<_}
 use native.Mathlib.Omega.{arith}
 use native.Mathlib.Nat.{le-trans}
 use lib.Dec.{T, eqb, eqb→eq, eqb-refl}
-use Rattle.line.specs.Card.{Card, Side, both, either, Separates, Inside}
+use Rattle.line.specs.Card.{Card, Side, both, either, Separates, Inside, Alike}
 use Rattle.line.specs.Flow.{only}
 use Rattle.line.proofs.Ways.{Best, Nearest, Farthest}
-use Rattle.line.proofs.Bools.{and-r, and-mk, or-l, or-r, not-and-l, not-or-mk, T-same}
+use Rattle.line.proofs.Bools.{and-r, and-mk, or-l, or-r, not-and-l, not-or-mk, T-same, T-true}
+
+abbrev pub Submodular : (Side → ℕ) → Type 0
+Submodular f = (s t : Side) → f (both s t) + f (either s t) ≤ f s + f t
+
+-- ---- the cheapest, near and far sides depend on how many modules there are, on their marks and on the price of each side: on nothing else
+
+pub record Same (c d : Card) (f g : Side → ℕ) : Type 0 where
+  pub modules : c .modules ≡ d .modules
+  pub marks : Alike (c .modules) (c .mark) (d .mark)
+  pub prices : (s : Side) → f s ≡ g s
+
+module _ {c d : Card} {f g : Side → ℕ} (e : Same c d f g) where
+  pub same-back : Same d c g f
+  same-back = record { modules = sym (e .modules); marks = λ m l. sym (e .marks m (omega (arith, e .modules))); prices = λ s. sym (e .prices s) }
+
+  pub separates-same : (s : Side) → Separates c s → Separates d s
+  separates-same s p = record {
+    meters = λ m l z. p .meters m (omega (arith, e .modules)) (omega (arith, e .modules, e .marks m (omega (arith, e .modules))));
+    makers = λ m l z. p .makers m (omega (arith, e .modules)) (omega (arith, e .modules, e .marks m (omega (arith, e .modules))));
+  }
+
+module _ {c d : Card} {f g : Side → ℕ} (e : Same c d f g) (s : Side) where
+  pub best-same : Best c f s → Best d g s
+  best-same p = record { separates = separates-same e s (p .separates); least = λ t q. omega (arith, e .prices s, e .prices t, p .least t (separates-same (same-back e) t q)) }
+
+module _ {c d : Card} {f g : Side → ℕ} (e : Same c d f g) (s : Side) where
+  pub nearest-same : Nearest c f s → Nearest d g s
+  nearest-same p = record { cheapest = best-same e s (p .cheapest); inside = λ t q m l. p .inside t (best-same (same-back e) t q) m (omega (arith, e .modules)) }
+
+  pub farthest-same : Farthest c f s → Farthest d g s
+  farthest-same p = record { cheapest = best-same e s (p .cheapest); holds = λ t q m l. p .holds t (best-same (same-back e) t q) m (omega (arith, e .modules)) }
 
 -- ---- the marks of a card, changed
 
@@ -28,24 +59,6 @@ pub record Tightens (c : Card) (j k : ℕ → ℕ) : Type 0 where
 -- what separates under tighter marks does so under looser ones
 pub separates-loose : (c : Card) (j k : ℕ → ℕ) → Tightens c j k → (t : Side) → Separates (remark c k) t → Separates (remark c j) t
 separates-loose c j k g t q = record { meters = λ m l e. q .meters m l (g .meters m l e); makers = λ m l e. q .makers m l (g .makers m l e) }
-
-abbrev pub Submodular : (Side → ℕ) → Type 0
-Submodular f = (s t : Side) → f (both s t) + f (either s t) ≤ f s + f t
-
--- ---- two prices that agree have the same cheapest, near and far sides
-
-module _ (c : Card) (f g : Side → ℕ) (same : (s : Side) → f s ≡ g s) where
-  pub best-same : (s : Side) → Best c f s → Best c g s
-  best-same s p = record { separates = p .separates; least = λ t q. omega (arith, same s, same t, p .least t q) }
-
-  best-back : (s : Side) → Best c g s → Best c f s
-  best-back s p = record { separates = p .separates; least = λ t q. omega (arith, same s, same t, p .least t q) }
-
-  pub nearest-same : (s : Side) → Nearest c f s → Nearest c g s
-  nearest-same s p = record { cheapest = best-same s (p .cheapest); inside = λ t q. p .inside t (best-back t q) }
-
-  pub farthest-same : (s : Side) → Farthest c f s → Farthest c g s
-  farthest-same s p = record { cheapest = best-same s (p .cheapest); holds = λ t q. p .holds t (best-back t q) }
 
 -- ---- pinning: the free modules of x get the mark k
 
@@ -69,6 +82,11 @@ pin-from P k x mark m h f = go (x m && eqb (mark m) 0) h
     go : (b : Bool) → P (cond b k (mark m)) → P (mark m)
     go true q = f q
     go false q = q
+
+-- a free module v that is pinned by itself has the mark k
+pinned : (k v : ℕ) (mark : ℕ → ℕ) → mark v ≡ 0 → pin k (only v) mark v ≡ k
+unfolding pin
+pinned k v mark z = rw (z, T-true (eqb v v) (eqb-refl v))
 
 module _ (c : Card) (x : Side) where
   abbrev pub toMeter : ℕ → ℕ
@@ -95,56 +113,86 @@ module _ (c : Card) (x : Side) where
   pub maker-rises : Rises c toMaker (c .mark)
   maker-rises = record { meters = λ m l e. pin-from (λ n. n ≡ 1) 2 x (c .mark) m e (λ z. omega arith); makers = maker-tightens .makers }
 
+-- a side that separates still does after its own module was pinned to the meter, or another one to the maker
+module _ (c : Card) (v : ℕ) (s : Side) (p : Separates c s) where
+  meter-still : T (s v) → Separates (remark c (toMeter c (only v))) s
+  meter-still i = record {
+    meters = λ m l. pin-to (λ n. n ≡ 1 → T (s m)) 1 (only v) (c .mark) m (λ e _ _. rw (eqb→eq m v e) i) (p .meters m l);
+    makers = λ m l e. p .makers m l (meter-rises c (only v) .makers m l e);
+  }
+
+  maker-still : T (not (s v)) → Separates (remark c (toMaker c (only v))) s
+  maker-still o = record {
+    meters = λ m l e. p .meters m l (maker-rises c (only v) .meters m l e);
+    makers = λ m l. pin-to (λ n. n ≡ 2 → T (not (s m))) 2 (only v) (c .mark) m (λ e _ _. rw (eqb→eq m v e) o) (p .makers m l);
+  }
+
+-- ---- one card: there is one near side, one far side and one least price
+
+module _ (f : Side → ℕ) (c : Card) (s t : Side) where
+  pub near-one : Nearest c f s → Nearest c f t → Alike (c .modules) s t
+  near-one p q m l = T-same (s m) (t m) (p .inside t (q .cheapest) m l) (q .inside s (p .cheapest) m l)
+
+  pub far-one : Farthest c f s → Farthest c f t → Alike (c .modules) s t
+  far-one p q m l = T-same (s m) (t m) (q .holds s (p .cheapest) m l) (p .holds t (q .cheapest) m l)
+
+  pub cheapest-price : Best c f s → Best c f t → f s ≡ f t
+  cheapest-price p q = omega (arith, p .least t (q .separates), q .least s (p .separates))
+
+-- ---- marks that tighten: the price does not fall, and a near or far side that still separates stays what it was
+
+module _ (f : Side → ℕ) (c : Card) (j k : ℕ → ℕ) (g : Tightens c j k) (s : Side) where
+  pub price-rises : (t : Side) → Best (remark c j) f s → Best (remark c k) f t → f s ≤ f t
+  price-rises t p q = p .least t (separates-loose c j k g t (q .separates))
+
+  module _ (still : Separates (remark c k) s) where
+    -- a side cheapest under tighter marks was so under looser ones
+    cheapest-was : Best (remark c j) f s → (t : Side) → Best (remark c k) f t → Best (remark c j) f t
+    cheapest-was p t q = record { separates = separates-loose c j k g t (q .separates); least = λ u a. le-trans (q .least s still) (p .least u a) }
+
+    cheapest-stays : Best (remark c j) f s → Best (remark c k) f s
+    cheapest-stays p = record { separates = still; least = λ u a. p .least u (separates-loose c j k g u a) }
+
+    pub near-stays : Nearest (remark c j) f s → Nearest (remark c k) f s
+    near-stays p = record { cheapest = cheapest-stays (p .cheapest); inside = λ t q. p .inside t (cheapest-was (p .cheapest) t q) }
+
+    pub far-stays : Farthest (remark c j) f s → Farthest (remark c k) f s
+    far-stays p = record { cheapest = cheapest-stays (p .cheapest); holds = λ t q. p .holds t (cheapest-was (p .cheapest) t q) }
+
 module _ (f : Side → ℕ) (sub : Submodular f) where
   -- ---- marks that rise: the near side and the far side grow
 
-  module _ (c : Card) (j k : ℕ → ℕ) (g : Rises c j k) where
-    separates-both : (s t : Side) → Separates (remark c j) s → Separates (remark c k) t → Separates (remark c j) (both s t)
-    separates-both s t p q = record {
+  module _ (c : Card) (j k : ℕ → ℕ) (g : Rises c j k) (s t : Side) where
+    separates-both : Separates (remark c j) s → Separates (remark c k) t → Separates (remark c j) (both s t)
+    separates-both p q = record {
       meters = λ m l e. and-mk (s m) (t m) (p .meters m l e) (q .meters m l (g .meters m l e));
       makers = λ m l e. not-and-l (s m) (t m) (p .makers m l e);
     }
 
-    separates-either : (s t : Side) → Separates (remark c j) s → Separates (remark c k) t → Separates (remark c k) (either s t)
-    separates-either s t p q = record {
+    separates-either : Separates (remark c j) s → Separates (remark c k) t → Separates (remark c k) (either s t)
+    separates-either p q = record {
       meters = λ m l e. or-r (s m) (t m) (q .meters m l e);
       makers = λ m l e. not-or-mk (s m) (t m) (p .makers m l (g .makers m l e)) (q .makers m l e);
     }
 
     -- uncrossing: the common part is a cheapest side of the one, and the whole of the other
-    pub cheapest-both : (s t : Side) → Best (remark c j) f s → Best (remark c k) f t → Best (remark c j) f (both s t)
-    cheapest-both s t p q = record {
-      separates = separates-both s t (p .separates) (q .separates);
-      least = λ u a. omega (arith, sub s t, p .least u a, q .least (either s t) (separates-either s t (p .separates) (q .separates)));
+    cheapest-both : Best (remark c j) f s → Best (remark c k) f t → Best (remark c j) f (both s t)
+    cheapest-both p q = record {
+      separates = separates-both (p .separates) (q .separates);
+      least = λ u a. omega (arith, sub s t, p .least u a, q .least (either s t) (separates-either (p .separates) (q .separates)));
     }
 
-    pub cheapest-either : (s t : Side) → Best (remark c j) f s → Best (remark c k) f t → Best (remark c k) f (either s t)
-    cheapest-either s t p q = record {
-      separates = separates-either s t (p .separates) (q .separates);
-      least = λ u a. omega (arith, sub s t, q .least u a, p .least (both s t) (separates-both s t (p .separates) (q .separates)));
+    cheapest-either : Best (remark c j) f s → Best (remark c k) f t → Best (remark c k) f (either s t)
+    cheapest-either p q = record {
+      separates = separates-either (p .separates) (q .separates);
+      least = λ u a. omega (arith, sub s t, q .least u a, p .least (both s t) (separates-both (p .separates) (q .separates)));
     }
 
-    pub near-rises : (s t : Side) → Nearest (remark c j) f s → Nearest (remark c k) f t → Inside c s t
-    near-rises s t p q m l h = and-r (s m) (t m) (p .inside (both s t) (cheapest-both s t (p .cheapest) (q .cheapest)) m l h)
+    pub near-rises : Nearest (remark c j) f s → Nearest (remark c k) f t → Inside c s t
+    near-rises p q m l h = and-r (s m) (t m) (p .inside (both s t) (cheapest-both (p .cheapest) (q .cheapest)) m l h)
 
-    pub far-rises : (s t : Side) → Farthest (remark c j) f s → Farthest (remark c k) f t → Inside c s t
-    far-rises s t p q m l h = q .holds (either s t) (cheapest-either s t (p .cheapest) (q .cheapest)) m l (or-l (s m) (t m) h)
-
-  -- ---- marks that tighten: the price does not fall, and a near side that still separates stays the near side
-
-  module _ (c : Card) (j k : ℕ → ℕ) (g : Tightens c j k) where
-    pub price-rises : (s t : Side) → Best (remark c j) f s → Best (remark c k) f t → f s ≤ f t
-    price-rises s t p q = p .least t (separates-loose c j k g t (q .separates))
-
-    module _ (s : Side) (still : Separates (remark c k) s) where
-      pub cheapest-stays : Best (remark c j) f s → Best (remark c k) f s
-      cheapest-stays p = record { separates = still; least = λ u a. p .least u (separates-loose c j k g u a) }
-
-      pub near-stays : Nearest (remark c j) f s → Nearest (remark c k) f s
-      near-stays p = record {
-        cheapest = cheapest-stays (p .cheapest);
-        inside = λ t q. p .inside t (record { separates = separates-loose c j k g t (q .separates); least = λ u a. le-trans (q .least s still) (p .cheapest .least u a) });
-      }
+    pub far-rises : Farthest (remark c j) f s → Farthest (remark c k) f t → Inside c s t
+    far-rises p q m l h = q .holds (either s t) (cheapest-either (p .cheapest) (q .cheapest)) m l (or-l (s m) (t m) h)
 
   -- ---- one card
 
@@ -152,90 +200,51 @@ module _ (f : Side → ℕ) (sub : Submodular f) where
   rises-refl c = record { meters = λ m l e. e; makers = λ m l e. e }
 
   pub both-cheapest : (c : Card) (s t : Side) → Best c f s → Best c f t → Best c f (both s t)
-  both-cheapest c s t = cheapest-both c (c .mark) (c .mark) (rises-refl c) s t
+  both-cheapest c = cheapest-both c (c .mark) (c .mark) (rises-refl c)
 
   pub either-cheapest : (c : Card) (s t : Side) → Best c f s → Best c f t → Best c f (either s t)
-  either-cheapest c s t = cheapest-either c (c .mark) (c .mark) (rises-refl c) s t
+  either-cheapest c = cheapest-either c (c .mark) (c .mark) (rises-refl c)
 
-  -- there is one near side, and one far side
-  pub near-one : (c : Card) (s t : Side) → Nearest c f s → Nearest c f t → (m : ℕ) → m < c .modules → s m ≡ t m
-  near-one c s t p q m l = T-same (s m) (t m) (p .inside t (q .cheapest) m l) (q .inside s (p .cheapest) m l)
+  -- ---- one module v more is pinned to the meter: the near side s before, and t after
 
-  pub far-one : (c : Card) (s t : Side) → Farthest c f s → Farthest c f t → (m : ℕ) → m < c .modules → s m ≡ t m
-  far-one c s t p q m l = T-same (s m) (t m) (q .holds s (p .cheapest) m l) (p .holds t (q .cheapest) m l)
-
-  pub cheapest-price : (c : Card) (s t : Side) → Best c f s → Best c f t → f s ≡ f t
-  cheapest-price c s t p q = omega (arith, p .least t (q .separates), q .least s (p .separates))
-
-  -- ---- pinning
-
-  module _ (c : Card) (x : Side) where
-    -- the near side s, and the near side t after some modules were pinned to the meter
-    module _ (s t : Side) (p : Nearest c f s) (q : Nearest (remark c (toMeter c x)) f t) where
-      pub meter-holds : Inside c s t
-      meter-holds = near-rises c (c .mark) (toMeter c x) (meter-rises c x) s t p q
-
-      pub meter-price : f s ≤ f t
-      meter-price = price-rises c (c .mark) (toMeter c x) (meter-tightens c x) s t (p .cheapest) (q .cheapest)
-
-      module _ (held : (m : ℕ) → m < c .modules → T (x m) → c .mark m ≡ 0 → T (s m)) where
-        meter-still : Nearest (remark c (toMeter c x)) f s
-        meter-still =
-            near-stays c (c .mark) (toMeter c x) (meter-tightens c x) s
-            (record {
-              meters = λ m l. pin-to (λ n. n ≡ 1 → T (s m)) 1 x (c .mark) m (λ i z _. held m l i z) (p .cheapest .separates .meters m l);
-              makers = λ m l e. p .cheapest .separates .makers m l (meter-rises c x .makers m l e);
-            })
-            p
-
-        -- nothing changes, where they were in s already
-        pub meter-same : (m : ℕ) → m < c .modules → s m ≡ t m
-        meter-same = near-one (remark c (toMeter c x)) s t meter-still q
-
-        pub meter-same-price : f s ≡ f t
-        meter-same-price = cheapest-price (remark c (toMeter c x)) s t (meter-still .cheapest) (q .cheapest)
-
-    -- and after some were pinned to the maker
-    module _ (s t : Side) (p : Nearest c f s) (q : Nearest (remark c (toMaker c x)) f t) where
-      pub maker-holds : Inside c t s
-      maker-holds = near-rises c (toMaker c x) (c .mark) (maker-rises c x) t s q p
-
-      pub maker-price : f s ≤ f t
-      maker-price = price-rises c (c .mark) (toMaker c x) (maker-tightens c x) s t (p .cheapest) (q .cheapest)
-
-      module _ (out : (m : ℕ) → m < c .modules → T (x m) → c .mark m ≡ 0 → T (not (s m))) where
-        maker-still : Nearest (remark c (toMaker c x)) f s
-        maker-still =
-            near-stays c (c .mark) (toMaker c x) (maker-tightens c x) s
-            (record {
-              meters = λ m l e. p .cheapest .separates .meters m l (maker-rises c x .meters m l e);
-              makers = λ m l. pin-to (λ n. n ≡ 2 → T (not (s m))) 2 x (c .mark) m (λ i z _. out m l i z) (p .cheapest .separates .makers m l);
-            })
-            p
-
-        pub maker-same : (m : ℕ) → m < c .modules → s m ≡ t m
-        maker-same = near-one (remark c (toMaker c x)) s t maker-still q
-
-        pub maker-same-price : f s ≡ f t
-        maker-same-price = cheapest-price (remark c (toMaker c x)) s t (maker-still .cheapest) (q .cheapest)
-
-  -- ---- the pinning law at one module v, which is free
-
-  module _ (c : Card) (v : ℕ) (s t : Side) (p : Nearest c f s) (q : Nearest (remark c (pin 1 (only v) (c .mark))) f t) where
+  module _ (c : Card) (v : ℕ) (s t : Side) (p : Nearest c f s) (q : Nearest (remark c (toMeter c (only v))) f t) where
     pub pin-holds : Inside c s t
-    pin-holds = meter-holds c (only v) s t p q
+    pin-holds = near-rises c (c .mark) (toMeter c (only v)) (meter-rises c (only v)) s t p q
 
-    -- v itself is inside
     pub pin-in : v < c .modules → c .mark v ≡ 0 → T (t v)
-    unfolding pin
-    pin-in l z = q .cheapest .separates .meters v l (rw (z, T-same (eqb v v) true (λ _. tt) (λ _. eqb-refl v)))
+    pin-in l z = q .cheapest .separates .meters v l (pinned 1 v (c .mark) z)
 
     pub pin-price : f s ≤ f t
-    pin-price = meter-price c (only v) s t p q
+    pin-price = price-rises f c (c .mark) (toMeter c (only v)) (meter-tightens c (only v)) s t (p .cheapest) (q .cheapest)
 
     module _ (already : T (s v)) where
-      pub pin-same : (m : ℕ) → m < c .modules → s m ≡ t m
-      pin-same = meter-same c (only v) s t p q (λ m l e _. rw (eqb→eq m v e) already)
+      pin-stays : Nearest (remark c (toMeter c (only v))) f s
+      pin-stays = near-stays f c (c .mark) (toMeter c (only v)) (meter-tightens c (only v)) s (meter-still c v s (p .cheapest .separates) already) p
+
+      pub pin-same : Alike (c .modules) s t
+      pin-same = near-one f (remark c (toMeter c (only v))) s t pin-stays q
 
       pub pin-same-price : f s ≡ f t
-      pin-same-price = meter-same-price c (only v) s t p q (λ m l e _. rw (eqb→eq m v e) already)
+      pin-same-price = cheapest-price f (remark c (toMeter c (only v))) s t (pin-stays .cheapest) (q .cheapest)
+
+  -- ---- and the mirror: to the maker, and the far side s before, and t after
+
+  module _ (c : Card) (v : ℕ) (s t : Side) (p : Farthest c f s) (q : Farthest (remark c (toMaker c (only v))) f t) where
+    pub pin-far-inside : Inside c t s
+    pin-far-inside = far-rises c (toMaker c (only v)) (c .mark) (maker-rises c (only v)) t s q p
+
+    pub pin-far-out : v < c .modules → c .mark v ≡ 0 → T (not (t v))
+    pin-far-out l z = q .cheapest .separates .makers v l (pinned 2 v (c .mark) z)
+
+    pub pin-far-price : f s ≤ f t
+    pin-far-price = price-rises f c (c .mark) (toMaker c (only v)) (maker-tightens c (only v)) s t (p .cheapest) (q .cheapest)
+
+    module _ (already : T (not (s v))) where
+      pin-far-stays : Farthest (remark c (toMaker c (only v))) f s
+      pin-far-stays = far-stays f c (c .mark) (toMaker c (only v)) (maker-tightens c (only v)) s (maker-still c v s (p .cheapest .separates) already) p
+
+      pub pin-far-same : Alike (c .modules) s t
+      pin-far-same = far-one f (remark c (toMaker c (only v))) s t pin-far-stays q
+
+      pub pin-far-same-price : f s ≡ f t
+      pin-far-same-price = cheapest-price f (remark c (toMaker c (only v))) s t (pin-far-stays .cheapest) (q .cheapest)

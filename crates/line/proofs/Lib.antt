@@ -10,6 +10,7 @@ pub mod Push
 pub mod Path
 pub mod Price
 pub mod Cheap
+pub mod Order
 pub mod Steps
 pub mod Duality
 pub mod Turn
@@ -17,4 +18,5 @@ pub mod Search
 pub mod Tree
 pub mod Area
 pub mod Small
-pub mod Tests
+pub mod EverySide
+pub mod Examples

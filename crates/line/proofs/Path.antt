@@ -1,11 +1,11 @@
--- An augmenting path, as code has it: a list of steps, in either order. Its least room on the flow before is pushed along all of it, step after step.
--- The steps are pairwise apart: no pin is entered twice, none is left twice, and no two use the room of one net. Then a push along one step keeps the room
--- of every other (`spare-kept`), the flow after is fair (`path-fair`), and its value is higher by what was pushed (`path-value`). Assumes nothing.
+-- A path whose steps are pairwise apart can be pushed by its least room, in either order: the flow after is fair (`path-fair`), and its value is higher by what was pushed
+-- (`path-value`). Apart: no pin is entered twice, none is left twice, and no two steps use the room of one net. Then a push along one step keeps the room of every other
+-- (`spare-kept`). Assumes nothing.
 use mathlib.Core.Path.{_≡_, refl, sym, ap, _∙_}
 use mathlib.Core.Logic.{_≢_, _⊎_, inl, inr}
 use mathlib.Core.Bool.{Bool, true, false, not, cond}
-use mathlib.Core.List.{List, [], _∷_, _++_}
-use Prim.Native.Nat.{ℕ, suc, _+_, _-_, _≤_, _<_, min}
+use mathlib.Core.List.{List, [], _∷_}
+use Prim.Native.Nat.{ℕ, _+_, _-_, _≤_, _<_, min}
 use native.Mathlib.Omega.{arith}
 use native.Mathlib.Decide.{ℕ-discrete}
 use lib.IntN.{ℤ, pos, negℤ, _+ℤ_, +ℤ-assoc, +ℤ-comm, +ℤ-idl, +ℤ-idr, +ℤ-invr}
@@ -64,7 +64,7 @@ pub record Apart (t u : Step) : Type 0 where
 unfoldable pub pushStep : Card → List ℤ → ℕ → Step → List ℤ
 pushStep c xs d t = push xs (start (c .nets) (t .net) + t .a) (start (c .nets) (t .net) + t .b) d
 
--- ---- a sound step with room for d lets d pass; and what passes is such a step
+-- ---- a sound step with room for d lets d pass
 
 pub spare-passes : (w : Ways) (c : Card) (xs : List ℤ) (d : ℕ) (t : Step) → Sound w c t → Spare c xs d t →
     PassesBy (w .sends (t .net)) (w .takes (t .net)) (netAt (c .nets) (t .net)) (numbers (c .nets) xs (t .net)) (t .a) (t .b) d
@@ -78,45 +78,6 @@ spare-passes w c xs d t p q = record { leave = one (t .undoA) (p .sends) (q .les
     go true y f g h = inl (f tt)
     go false true f g h = inr (inl (g tt))
     go false false f g h = inr (inr (h tt tt))
-
--- the kinds of a step through which d can pass
-pub passes-spare : (r q : ℕ → Bool) (n : Net) (ys : List ℤ) (a b d : ℕ) → PassesBy r q n ys a b d →
-    (x : Bool) × (y : Bool) × (T (not x) → T (r a)) × (T (not y) → T (q b)) × NetSpare n ys d a b x y
-passes-spare r q n ys a b d p = go (p .leave) (p .enter) (p .room)
-  where
-    Found : Type 0
-    Found = (x : Bool) × (y : Bool) × (T (not x) → T (r a)) × (T (not y) → T (q b)) × NetSpare n ys d a b x y
-
-    go : T (r a) ⊎ (d ≤ taken (getD ys a (pos 0))) → T (q b) ⊎ (d ≤ sent (getD ys b (pos 0))) →
-        (d ≤ taken (getD ys a (pos 0))) ⊎ ((d ≤ sent (getD ys b (pos 0))) ⊎ (totalSent ys + d ≤ n .weight)) → Found
-    go (inr h) (inr g) o = (true, true, (λ t. absurd t), (λ t. absurd t), record { less = λ _. h; back = λ _. g; room = λ t _. absurd t })
-    go (inr h) (inl g) o = (true, false, (λ t. absurd t), (λ _. g), record { less = λ _. h; back = λ t. absurd t; room = λ t _. absurd t })
-    go (inl h) (inr g) o = (false, true, (λ _. h), (λ t. absurd t), record { less = λ t. absurd t; back = λ _. g; room = λ _ t. absurd t })
-    go (inl h) (inl g) (inl o) = (true, false, (λ t. absurd t), (λ _. g), record { less = λ _. o; back = λ t. absurd t; room = λ t _. absurd t })
-    go (inl h) (inl g) (inr (inl o)) = (false, true, (λ _. h), (λ t. absurd t), record { less = λ t. absurd t; back = λ _. o; room = λ _ t. absurd t })
-    go (inl h) (inl g) (inr (inr o)) = (false, false, (λ _. h), (λ _. g), record { less = λ t. absurd t; back = λ t. absurd t; room = λ _ _. o })
-
--- a step in three kinds: undo at b, undo at a, or room
-abbrev pub Kinds : (ℕ → Bool) → (ℕ → Bool) → Net → List ℤ → ℕ → ℕ → ℕ → Type 0
-Kinds r q n ys a b d =
-    (T (r a) × (d ≤ sent (getD ys b (pos 0))))
-    ⊎ (((d ≤ taken (getD ys a (pos 0))) × (T (q b) ⊎ (d ≤ sent (getD ys b (pos 0))))) ⊎ (T (r a) × T (q b) × (totalSent ys + d ≤ n .weight)))
-
-pub passes-kinds : (r q : ℕ → Bool) (n : Net) (ys : List ℤ) (a b d : ℕ) → PassesBy r q n ys a b d → Kinds r q n ys a b d
-passes-kinds r q n ys a b d p = go (p .leave) (p .enter) (p .room)
-  where
-    go : T (r a) ⊎ (d ≤ taken (getD ys a (pos 0))) → T (q b) ⊎ (d ≤ sent (getD ys b (pos 0))) →
-        (d ≤ taken (getD ys a (pos 0))) ⊎ ((d ≤ sent (getD ys b (pos 0))) ⊎ (totalSent ys + d ≤ n .weight)) → Kinds r q n ys a b d
-    go (inr h) g o = inr (inl (h, g))
-    go (inl h) (inr g) o = inl (h, g)
-    go (inl h) (inl g) (inl o) = inr (inl (o, inl g))
-    go (inl h) (inl g) (inr (inl o)) = inl (h, o)
-    go (inl h) (inl g) (inr (inr o)) = inr (inr (h, g, o))
-
-pub kinds-passes : (r q : ℕ → Bool) (n : Net) (ys : List ℤ) (a b d : ℕ) → Kinds r q n ys a b d → PassesBy r q n ys a b d
-kinds-passes r q n ys a b d (inl h) = record { leave = inl (h .0); enter = inr (h .1); room = inr (inl (h .1)) }
-kinds-passes r q n ys a b d (inr (inl h)) = record { leave = inr (h .0); enter = h .1; room = inl (h .0) }
-kinds-passes r q n ys a b d (inr (inr h)) = record { leave = inl (h .0); enter = inl (h .1); room = inr (inr (h .2)) }
 
 -- ---- a push along one step keeps the room of another
 
@@ -219,26 +180,6 @@ Leads c h (t ∷ ts) u = (tail c t ≡ h) × Leads c (head c t) ts u
 unfoldable pub LeadsBack : Card → ℕ → List Step → ℕ → Type 0
 LeadsBack c h [] u = h ≡ u
 LeadsBack c h (t ∷ ts) u = (head c t ≡ u) × LeadsBack c h ts (tail c t)
-
--- by number
-abbrev pub noStep : Step
-noStep = record { net = 0; a = 0; b = 0; undoA = false; undoB = false }
-
-pub all-from : (P : Step → Type 0) (ts : List Step) → ((i : ℕ) → i < length ts → P (getD ts i noStep)) → AllOf P ts
-unfolding AllOf
-all-from P [] h = tt
-all-from P (t ∷ ts) h = (h 0 (omega arith), all-from P ts (λ i l. h (suc i) (omega arith)))
-
-pub pairwise-from : (ts : List Step) → ((i j : ℕ) → i < j → j < length ts → Apart (getD ts i noStep) (getD ts j noStep)) → Pairwise ts
-unfolding Pairwise
-pairwise-from [] h = tt
-pairwise-from (t ∷ ts) h =
-    (all-from (Apart t) ts (λ j l. h 0 (suc j) (omega arith) (omega arith)), pairwise-from ts (λ i j l k. h (suc i) (suc j) (omega arith) (omega arith)))
-
-pub pushAll-snoc : (c : Card) (xs : List ℤ) (d : ℕ) (ts : List Step) (t : Step) → pushAll c xs d (ts ++ (t ∷ [])) ≡ pushStep c (pushAll c xs d ts) d t
-unfolding pushAll
-pushAll-snoc c xs d [] t = refl
-pushAll-snoc c xs d (u ∷ ts) t = pushAll-snoc c (pushStep c xs d u) d ts t
 
 -- ---- what a path carries at a side: what its first module sends and its last one takes
 

@@ -1,4 +1,5 @@
--- Pushing d more from pin a to pin b of one net: what it does to the numbers, the rules, the roles and what passes at a side. Assumes nothing.
+-- Pushing d more from pin a to pin b of a net through which d can pass keeps the net rule and the roles, leaves all other nets as they were, and changes what a side
+-- sends by d at those two pins alone. Assumes nothing.
 use mathlib.Core.Path.{_≡_, refl, sym, ap, ap₂, _∙_}
 use mathlib.Core.Logic.{_≢_, _⊎_, inl, inr}
 use mathlib.Core.Bool.{Bool, true, false, not, cond}

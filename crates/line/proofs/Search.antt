@@ -1,5 +1,5 @@
--- What an engine asks of the theory around a path: the flow of zeros to begin with, bounds of the numbers, a search by net and pin numbers in both directions,
--- steps of one search tree, and a measure that ends the rounds. Assumes nothing.
+-- A search from the meters, or back from the makers, that goes by net and pin numbers ends with the least side that no step leaves. Around it, for an engine: zeros are a
+-- fair flow, no number passes its net's weight, steps of one search tree are apart, and no push takes the value above a price. Assumes nothing.
 use mathlib.Core.Path.{_≡_, refl, sym, ap, _∙_}
 use mathlib.Core.Logic.{_≢_, _⊎_, inl, inr}
 use mathlib.Core.Bool.{Bool, true, false, not, cond}

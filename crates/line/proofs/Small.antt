@@ -1,4 +1,5 @@
--- The small cards of the scope page, for the tests of every crate.
+-- The small cards of document 01: Bridge, Chain and Fan. Nets on the four modules of the first two make a valid card (`marks-valid`), and 1 from end to end of the row is
+-- a fair flow (`row-fair`). Assumes nothing.
 use mathlib.Core.Path.{_≡_, refl}
 use mathlib.Core.Bool.{Bool, true, false, _&&_}
 use mathlib.Core.Logic.{_⊎_, inl, inr}

@@ -1,5 +1,5 @@
--- Sums of a flow over the pins of a side, in ℕ: what is sent and what is taken, apart. Assumes nothing.
--- An integer z is sent z - taken z. So an equation or an order of integers is one of naturals, and `omega` does the rest.
+-- A number is what it sends less what it takes, so a sum over the pins of a side is two sums in ℕ, and `omega` does the rest. Where what is sent and what is taken agree
+-- at each module of a side, they agree over the side (`level-modules`). Assumes nothing.
 use mathlib.Core.Path.{_≡_, refl, sym, ap, _∙_}
 use mathlib.Core.Logic.{_≢_}
 use mathlib.Core.Bool.{Bool, true, false, not, cond, _&&_, and-false}
@@ -11,9 +11,9 @@ use lib.IntN.{ℤ, pos, negsuc, _+ℤ_, subℕ}
 use lib.Signed.{_≤ℤ_}
 use lib.ListN.{length, take, drop, getD}
 use lib.Dec.{T, ltb, eqb, ltb→lt, nltb→le, eqb→eq, eqb-refl, T-not, le→leb}
-use Rattle.line.specs.Card.{Side, outside, touches}
+use Rattle.line.specs.Card.{Side, outside}
 use Rattle.line.specs.Flow.{sent, taken, total, totalSent, flowAt}
-use Rattle.line.proofs.Bools.{T-true, T-false, not-or-l, not-or-r, or-l, or-r}
+use Rattle.line.proofs.Bools.{T-true}
 
 -- ---- an integer as a difference
 
@@ -241,17 +241,3 @@ zeros-sumAt f z s (p ∷ ps) (x ∷ xs) e zero l t = go (s p) t (omega arith)
     go true t e = e
     go false t e = absurd t
 zeros-sumAt f z s (p ∷ ps) (x ∷ xs) e (suc i) l t = zeros-sumAt f z s ps xs (omega arith) i (le-of-suc-le-suc l) t
-
--- ---- sums and touching
-
-pub sumAt-untouched : (f : ℤ → ℕ) (s : Side) (ps : List ℕ) (xs : List ℤ) → T (not (touches s ps)) → sumAt f s ps xs ≡ 0
-unfolding sumAt touches
-sumAt-untouched f s [] xs h = refl
-sumAt-untouched f s (p ∷ ps) [] h = refl
-sumAt-untouched f s (p ∷ ps) (x ∷ xs) h = rw (T-false (s p) (not-or-l (s p) (touches s ps) h)) (omega (arith, sumAt-untouched f s ps xs (not-or-r (s p) (touches s ps) h)))
-
-pub touches-at : (s : Side) (ps : List ℕ) (i : ℕ) → i < length ps → T (s (getD ps i 0)) → T (touches s ps)
-unfolding touches
-touches-at s [] i l t = absurd (not-suc-le-zero l)
-touches-at s (p ∷ ps) zero l t = or-l (s p) (touches s ps) t
-touches-at s (p ∷ ps) (suc i) l t = or-r (s p) (touches s ps) (touches-at s ps i (le-of-suc-le-suc l) t)

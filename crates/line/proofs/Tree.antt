@@ -1,6 +1,6 @@
--- A search tree: each module that the search has reached, and that is no meter, has the step `up` by which it was reached, from a module of lower rank. With a
--- maker in the tree, the walk up from it is a path that can be pushed (`tree-fair`, `tree-value`). The room of a net is used from one of its pins alone,
--- its opener: so no two steps of a walk use it. Assumes nothing.
+-- A search tree that holds a maker gives a path that can be pushed: the walk up from the maker (`tree-fair`, `tree-value`). Each module in the tree that is no meter has
+-- the step `up` by which it was reached, from a module of lower rank; the room of a net is used from one of its pins alone, its opener, so no two steps of a walk use it.
+-- Assumes nothing.
 use mathlib.Core.Path.{_≡_, refl, sym, ap, _∙_}
 use mathlib.Core.Logic.{_≢_, _⊎_, inl, inr}
 use mathlib.Core.Bool.{Bool, true, false, not, cond}

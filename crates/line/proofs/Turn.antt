@@ -1,4 +1,4 @@
--- The turned card: meters and makers change places, senders and takers change places, and every number changes its sign. Steps then go the other way. So ONE
+-- On the turned card steps go the other way: meters and makers change places there, senders and takers change places, and every number changes its sign. So ONE
 -- search forwards gives the near side (`reached-near`) and, on the turned card, what lies outside the far side (`reached-far`). Assumes nothing.
 use mathlib.Core.Path.{_≡_, refl, sym, ap, _∙_}
 use mathlib.Core.Logic.{_⊎_, inl, inr}
@@ -168,13 +168,13 @@ module _ (w : Ways) (c : Card) (xs : List ℤ) where
       (net (w .sends e) (w .takes e) (netAt (c .nets) e) (numbers (c .nets) xs e) (each-at NetRule (c .nets) xs rules e l .zero)
       (eachBy-at (λ e. NetKeepsBy (w .sends e) (w .takes e) s) (c .nets) xs k e l)))
     where
-      flip : (p q : Bool) → (T p → T q) → T (not q) → T (not p)
-      flip true true f t = t
-      flip true false f t = absurd (f tt)
-      flip false q f t = tt
+      contra : (p q : Bool) → (T p → T q) → T (not q) → T (not p)
+      contra true true f t = t
+      contra true false f t = absurd (f tt)
+      contra false q f t = tt
 
       net : (r q : ℕ → Bool) (n : Net) (ys : List ℤ) → total ys ≡ pos 0 → NetKeepsBy r q s n ys → NetKeepsBy q r (outside s) n (negs ys)
-      net r q n ys z k b a lb la t p = flip (s (getD (n .pins) a 0)) (s (getD (n .pins) b 0)) (λ h. k a b la lb h (turn-passes r q n ys a b 1 z p)) t
+      net r q n ys z k b a lb la t p = contra (s (getD (n .pins) a 0)) (s (getD (n .pins) b 0)) (λ h. k a b la lb h (turn-passes r q n ys a b 1 z p)) t
 
 -- ---- prices turned
 

@@ -274,10 +274,6 @@ module _ (w : Ways) (c : Card) (valid : Valid c) (xs : List ℤ) (f : FairBy w c
     least = λ t q. pos-le (priceBy w (c .nets) s) (priceBy w (c .nets) t) (rw (closed-price w c valid xs f s p k) at (weak-duality w c valid xs f t q));
   }
 
-  -- and the flow has the largest value
-  pub closed-largest : (zs : List ℤ) → FairBy w c zs → value c zs ≤ℤ value c xs
-  closed-largest zs g = rw (closed-price w c valid xs f s p k) (weak-duality w c valid zs g s p)
-
   -- no step leaves a cheapest side
   pub cheapest-closed : (t : Side) → CheapestBy w c t → ClosedBy w c t xs
   cheapest-closed t q =
@@ -295,21 +291,9 @@ module _ (w : Ways) (c : Card) (valid : Valid c) (xs : List ℤ) (f : FairBy w c
   pub closed-far : ((t : Side) → ((m : ℕ) → m < c .modules → c .mark m ≡ 2 → T (not (t m))) → ClosedBy w c t xs → Inside c t s) → FarBy w c s
   closed-far h = record { cheapest = closed-cheapest; holds = λ t q. h t (q .separates .makers) (cheapest-closed t q) }
 
--- ---- a flow is kept when marks tighten: it stays fair, and its value does not change. So a walk's next round may begin with it
+-- ---- the value of a fair flow stays what it was when marks tighten
 
 module _ (w : Ways) (c : Card) (valid : Valid c) (k : ℕ → ℕ) (g : Tightens c (c .mark) k) (xs : List ℤ) (f : FairBy w c xs) where
-  was-free : (m : ℕ) → m < c .modules → k m ≡ 0 → c .mark m ≡ 0
-  was-free m l e = go (c .mark m) (valid .marks m l) (g .meters m l) (g .makers m l)
-    where
-      go : (j : ℕ) → j ≤ 2 → (j ≡ 1 → k m ≡ 1) → (j ≡ 2 → k m ≡ 2) → j ≡ 0
-      go zero t a b = refl
-      go (suc zero) t a b = absurd (omega (arith, a refl))
-      go (suc (suc zero)) t a b = absurd (omega (arith, b refl))
-      go (suc (suc (suc j))) t a b = absurd (omega arith)
-
-  pub fair-tightens : FairBy w (remark c k) xs
-  fair-tightens = record { fair = record { nets = f .fair .nets; modules = λ m l e. f .fair .modules m l (was-free m l e) }; roles = f .roles }
-
   pub value-tightens : value (remark c k) xs ≡ value c xs
   unfolding value
   value-tightens =

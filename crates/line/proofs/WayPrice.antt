@@ -1,10 +1,7 @@
--- Laws of the price by ways: it is submodular, depends on a side at the pins alone, and on no order of the nets. By `plainly` it is the price. Assumes nothing.
-use mathlib.Core.Path.{_≡_, refl, sym, ap, _∙_}
+-- The price by ways is submodular and depends on a side at the pins alone. By `plainly` it is the price of the page. Assumes nothing.
+use mathlib.Core.Path.{_≡_, refl, ap, _∙_}
 use mathlib.Core.Bool.{Bool, true, false, not, cond, _&&_, _||_}
-use mathlib.Core.List.{List, [], _∷_, List·Memᴰ, List·Memᴰ·head, List·Memᴰ·tail, Memᴰ·append-left, Memᴰ·append-right, List·Permᴰ, List·Permᴰ·nil, List·Permᴰ·cons, List·Permᴰ·swap, List·Permᴰ·trans}
-use mathlib.Core.List.{Perm}
-use mathlib.Core.Logic.{∥∥₁-elim}
-use native.Mathlib.Nat.{ℕ-set}
+use mathlib.Core.List.{List, [], _∷_, List·Memᴰ, List·Memᴰ·head, List·Memᴰ·tail, Memᴰ·append-left, Memᴰ·append-right}
 use Prim.Native.Nat.{ℕ, suc, _+_, _≤_}
 use native.Mathlib.Omega.{arith}
 use lib.Dec.{T}
@@ -31,19 +28,6 @@ or-mono true true b false d f g t = absurd (f tt)
 or-mono true false b true d f g t = tt
 or-mono true false b false d f g t = g t
 or-mono false a b c d f g t = g t
-
--- ---- a sum over a list, in any order
-
-unfoldable pub sumOf : {A : Type 0} → (A → ℕ) → List A → ℕ
-sumOf f [] = 0
-sumOf f (x ∷ xs) = f x + sumOf f xs
-
-pub sumOf-perm : {A : Type 0} (f : A → ℕ) {xs ys : List A} → List·Permᴰ xs ys → sumOf f xs ≡ sumOf f ys
-unfolding sumOf
-sumOf-perm f List·Permᴰ·nil = refl
-sumOf-perm f (List·Permᴰ·cons {a = a} {b = b} {l₁ = k} {l₂ = l} e p) = omega (arith, ap f e, sumOf-perm f p)
-sumOf-perm f (List·Permᴰ·swap {a = a} {b = b} {l = l} e g) = omega (arith, ap f e, ap f g)
-sumOf-perm f (List·Permᴰ·trans p q) = sumOf-perm f p ∙ sumOf-perm f q
 
 -- ---- meeting
 
@@ -120,31 +104,6 @@ unfolding priceBy allPins
 priceBy-same w [] s t f = refl
 priceBy-same w (n ∷ ns) s t f =
     rw (costBy-same (w .sends 0) (w .takes 0) s t n (λ m h. f m (Memᴰ·append-left (allPins ns) h)), priceBy-same (later w) ns s t (λ m h. f m (Memᴰ·append-right (n .pins) h)))
-
--- ---- the order of the nets does not count, where each takes its ways along
-
-pub record Way : Type 0 where
-  pub net : Net
-  pub sends : ℕ → Bool
-  pub takes : ℕ → Bool
-
-unfoldable pub lined : Ways → List Net → List Way
-lined w [] = []
-lined w (n ∷ ns) = record { net = n; sends = w .sends 0; takes = w .takes 0 } ∷ lined (later w) ns
-
-wayCost : Side → Way → ℕ
-wayCost s y = costBy (y .sends) (y .takes) s (y .net)
-
-price-lined : (w : Ways) (ns : List Net) (s : Side) → priceBy w ns s ≡ sumOf (wayCost s) (lined w ns)
-unfolding priceBy lined sumOf wayCost
-price-lined w [] s = refl
-price-lined w (n ∷ ns) s = rw (price-lined (later w) ns s)
-
-pub priceBy-perm : (w v : Ways) (ns ms : List Net) → List·Permᴰ (lined w ns) (lined v ms) → (s : Side) → priceBy w ns s ≡ priceBy v ms s
-priceBy-perm w v ns ms p s = price-lined w ns s ∙ sumOf-perm (wayCost s) p ∙ sym (price-lined v ms s)
-
-pub priceBy-Perm : (w v : Ways) (ns ms : List Net) → Perm (lined w ns) (lined v ms) → (s : Side) → priceBy w ns s ≡ priceBy v ms s
-priceBy-Perm w v ns ms h s = ∥∥₁-elim h (ℕ-set (priceBy w ns s) (priceBy v ms s)) (λ p. priceBy-perm w v ns ms p s)
 
 -- ---- by plainly it is the price of the page Card
 
