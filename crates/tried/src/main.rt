@@ -1,0 +1,8 @@
+// The desk's table, run: each case prints its name and its answer, and the file `stdout` has what they should be.
+mod make;
+mod reader;
+mod say;
+
+fn main() {
+    reader::run();
+}
