@@ -1,4 +1,4 @@
--- The card of a book: its modules with their marks, and its nets in file order, each with its weight and its pins. This page holds definitions only.
+-- The card of a book: its modules with their marks, and its nets in file order, each with its weight and its pins. Definitions only.
 use Prim.Native.Nat.{ℕ, _+_}
 use mathlib.Core.List.{List}
 use Rattle.line.specs.Card.{Net, Card, Side, areaTo}
