@@ -8,7 +8,6 @@ use lib.ListN.{length}
 use lib.Dec.{leb, eqb}
 use borrow.Author.Tests.{leb-true, leb-false, le-leb, lt-leb}
 use Rattle.book.specs.declared.Cursor.{Cursor}
-use Rattle.book.specs.declared.Step.{Step}
 use Rattle.book.specs.declared.Step.the-variants.{Number, End}
 use Rattle.book.specs.Format.{u16, u32, entryIs}
 use Rattle.book.specs.Steps.{stepIf, stepBy, stepEntry}

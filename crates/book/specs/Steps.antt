@@ -4,7 +4,6 @@ use mathlib.Core.Bool.{Bool, true, false, _&&_}
 use mathlib.Core.List.{List}
 use lib.ListN.{length}
 use lib.Dec.{leb}
-use Rattle.book.specs.declared.Cursor.{Cursor}
 use Rattle.book.specs.declared.Step.{Step}
 use Rattle.book.specs.declared.Step.the-variants.{Number, End}
 use Rattle.book.specs.Format.{u32, entryIs}

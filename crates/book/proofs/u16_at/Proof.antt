@@ -1,10 +1,7 @@
 use borrow.Author.Needs.{needs}
-use Prim.Native.Nat.{ℕ, _<_}
 use native.Mathlib.Omega.{arith}
-use mathlib.Core.Path.{_≡_, sym, _∙_}
+use mathlib.Core.Path.{sym, _∙_}
 use Rattle.book.specs.Format.{u16}
-use Rattle.book.specs.Steps.{numberIn}
-use Rattle.book.specs.declared.Step.{Step}
 use Rattle.book.proofs.Strides.{goes, ends}
 use Rattle.book.proofs.u16_at.Statement.{statement}
 use Rattle.book.proofs.u16_at.Tie as tie

@@ -1,8 +1,7 @@
 use borrow.Author.Needs.{needs}
-use Prim.Native.Nat.{_+_, _*_, _≤_}
+use Prim.Native.Nat.{_+_, _*_}
 use native.Mathlib.Omega.{arith}
 use mathlib.Core.Path.{_≡_, refl}
-use lib.ListN.{length}
 use Rattle.book.specs.Format.{u16}
 use Rattle.book.proofs.Strides.{does-go, does-end}
 use Rattle.book.proofs.Cursor.next_u16.Statement.{statement}

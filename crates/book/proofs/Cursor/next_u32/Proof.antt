@@ -1,10 +1,9 @@
 use borrow.Author.Needs.{needs}
-use Prim.Native.Nat.{ℕ, _+_, _*_, _<_}
+use Prim.Native.Nat.{ℕ, _+_, _<_}
 use native.Mathlib.Omega.{arith}
 use mathlib.Core.Path.{_≡_, sym, ap, _∙_}
-use mathlib.Core.List.{List}
 use Rattle.book.specs.Format.{u16, u32}
-use Rattle.book.specs.Steps.{stepBy, numberIn}
+use Rattle.book.specs.Steps.{numberIn}
 use Rattle.book.specs.declared.Step.{Step}
 use Rattle.book.specs.declared.Step.the-variants.{Number}
 use Rattle.book.specs.declared.Cursor.{Cursor}

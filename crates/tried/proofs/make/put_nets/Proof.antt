@@ -1,6 +1,5 @@
 use borrow.Author.Needs.{needs}
 use Prim.Native.Nat.{_≤_, _-_}
-use native.Mathlib.Omega.{arith}
 use Rattle.tried.proofs.make.put_nets.Statement.{statement}
 use Rattle.tried.proofs.make.put_nets.Tie as tie
 

@@ -10,8 +10,8 @@ use Rattle.book.specs.Format.{mark, modules}
 use Rattle.book.specs.Checks.{lacks}
 use lib.Dec.{eqb}
 use Rattle.book.proofs.Firsts.{lowest-more, lowest-found, lowest-ended}
-use Rattle.book.proofs.lacks.Statement.{statement}
-use Rattle.book.proofs.lacks.Tie as tie
+use Rattle.book.proofs.checks.lacks.Statement.{statement}
+use Rattle.book.proofs.checks.lacks.Tie as tie
 
 abbrev Inv-loop : tie.InvT-loop
 Inv-loop book wanted count m₀ m = (m ≤ count) × (lowest (λ k. eqb (mark book k) wanted) m ≡ Nothing)

@@ -10,8 +10,8 @@ use Rattle.book.specs.First.{first, lowest}
 use Rattle.book.specs.Format.{firstPin, nets, pins}
 use Rattle.book.specs.Checks.{badNet, check4}
 use Rattle.book.proofs.Firsts.{lowest-more, lowest-found, lowest-ended}
-use Rattle.book.proofs.bad_net.Statement.{statement}
-use Rattle.book.proofs.bad_net.Tie as tie
+use Rattle.book.proofs.checks.bad_net.Statement.{statement}
+use Rattle.book.proofs.checks.bad_net.Tie as tie
 
 abbrev Inv-loop : tie.InvT-loop
 Inv-loop book count sum₀ n₀ sum n =

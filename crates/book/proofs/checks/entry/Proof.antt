@@ -8,8 +8,8 @@ use Rattle.book.specs.declared.Step.{Step}
 use Rattle.book.specs.declared.Step.the-variants.{Number}
 use Rattle.book.specs.declared.Cursor.{Cursor}
 use Rattle.book.proofs.Strides.{Goes, goes, ends, Got, got, does-enter, does-refuse, cut-short}
-use Rattle.book.proofs.entry.Statement.{statement}
-use Rattle.book.proofs.entry.Tie as tie
+use Rattle.book.proofs.checks.entry.Statement.{statement}
+use Rattle.book.proofs.checks.entry.Tie as tie
 
 -- what each step that has gone tells
 first : (c : tie.After-known-told) →

@@ -7,8 +7,8 @@ use Rattle.book.specs.declared.Found.the-variants.{Nothing}
 use Rattle.book.specs.First.{first, lowest}
 use Rattle.book.specs.Checks.{badModule, check3}
 use Rattle.book.proofs.Firsts.{lowest-more, lowest-found, lowest-ended}
-use Rattle.book.proofs.bad_module.Statement.{statement}
-use Rattle.book.proofs.bad_module.Tie as tie
+use Rattle.book.proofs.checks.bad_module.Statement.{statement}
+use Rattle.book.proofs.checks.bad_module.Tie as tie
 
 abbrev Inv-loop : tie.InvT-loop
 Inv-loop book count m₀ m = (m ≤ count) × (lowest (badModule book) m ≡ Nothing)

@@ -11,8 +11,8 @@ use Rattle.book.specs.Format.{firstPin, nets, pins, pinCount}
 use Rattle.book.specs.Checks.{badPinOf, badPins, check5}
 use Rattle.book.proofs.Firsts.{lowest-more, lowest-found, lowest-ended, first-more, first-found}
 use Rattle.book.proofs.CardLaws.{pin-before}
-use Rattle.book.proofs.bad_pin.Statement.{statement}
-use Rattle.book.proofs.bad_pin.Tie as tie
+use Rattle.book.proofs.checks.bad_pin.Statement.{statement}
+use Rattle.book.proofs.checks.bad_pin.Tie as tie
 
 abbrev Inv-loop : tie.InvT-loop
 Inv-loop book count p₀ n many j₀ p j = (j ≤ many) × (p ≡ firstPin book n + j) × (lowest (badPinOf book n) j ≡ Nothing)
