@@ -4,14 +4,13 @@ use mathlib.Core.Path.{_≡_, refl}
 use mathlib.Core.Bool.{not}
 use Prim.Native.Nat.{ℕ, _≤_, _<_}
 use lib.Dec.{T}
-use Rattle.line.specs.Card.{Card, Side, both, either, price, Separates, Cheapest, Inside, Near, Far, Alike}
+use Rattle.line.specs.Card.{Card, Side, both, either, price, Separates, Cheapest, Inside, Near, Far, Alike, remark, toMeter, toMaker}
 use Rattle.line.specs.Flow.{only}
 use Rattle.line.proofs.Ways.{Best, Nearest, Farthest, plainly, priceBy, NearBy, FarBy}
 use Rattle.line.proofs.WayPrice.{price-plain}
 use Rattle.line.proofs.Price.{submodular}
 use Rattle.line.proofs.Lattice
-unfoldable pub use Rattle.line.proofs.Lattice.{pin}
-pub use Rattle.line.proofs.Lattice.{remark, Tightens, toMeter, toMaker, pin-to, pin-from, meter-tightens, maker-tightens, separates-loose}
+pub use Rattle.line.proofs.Lattice.{Tightens, pin-to, pin-from, meter-tightens, maker-tightens, separates-loose}
 
 -- ---- the page's words and those of Lattice
 

@@ -5,7 +5,7 @@ use Prim.Native.Nat.{ℕ, _+_, _≤_, _<_}
 use native.Mathlib.Omega.{arith}
 use native.Mathlib.Nat.{le-trans}
 use lib.Dec.{T, eqb, eqb→eq, eqb-refl}
-use Rattle.line.specs.Card.{Card, Side, both, either, Separates, Inside, Alike}
+use Rattle.line.specs.Card.{Card, Side, both, either, Separates, Inside, Alike, remark, pin, toMeter, toMaker}
 use Rattle.line.specs.Flow.{only}
 use Rattle.line.proofs.Ways.{Best, Nearest, Farthest}
 use Rattle.line.proofs.Bools.{and-r, and-mk, or-l, or-r, not-and-l, not-or-mk, T-same, T-true}
@@ -43,9 +43,6 @@ module _ {c d : Card} {f g : Side → ℕ} (e : Same c d f g) (s : Side) where
 
 -- ---- the marks of a card, changed
 
-abbrev pub remark : Card → (ℕ → ℕ) → Card
-remark c k = record { modules = c .modules; mark = k; nets = c .nets }
-
 -- from j to k meters are only added, and makers only taken away
 pub record Rises (c : Card) (j k : ℕ → ℕ) : Type 0 where
   pub meters : (m : ℕ) → m < c .modules → j m ≡ 1 → k m ≡ 1
@@ -61,9 +58,6 @@ pub separates-loose : (c : Card) (j k : ℕ → ℕ) → Tightens c j k → (t :
 separates-loose c j k g t q = record { meters = λ m l e. q .meters m l (g .meters m l e); makers = λ m l e. q .makers m l (g .makers m l e) }
 
 -- ---- pinning: the free modules of x get the mark k
-
-unfoldable pub pin : ℕ → Side → (ℕ → ℕ) → ℕ → ℕ
-pin k x mark m = cond (x m && eqb (mark m) 0) k (mark m)
 
 -- what holds of k, if m is free and in x, and of the old mark, holds of the new one; and back
 pub pin-to : (P : ℕ → Type 0) (k : ℕ) (x : Side) (mark : ℕ → ℕ) (m : ℕ) → (T (x m) → mark m ≡ 0 → P k) → P (mark m) → P (pin k x mark m)
@@ -89,28 +83,22 @@ unfolding pin
 pinned k v mark z = rw (z, T-true (eqb v v) (eqb-refl v))
 
 module _ (c : Card) (x : Side) where
-  abbrev pub toMeter : ℕ → ℕ
-  toMeter = pin 1 x (c .mark)
-
-  abbrev pub toMaker : ℕ → ℕ
-  toMaker = pin 2 x (c .mark)
-
-  pub meter-tightens : Tightens c (c .mark) toMeter
+  pub meter-tightens : Tightens c (c .mark) (toMeter c x)
   meter-tightens = record {
     meters = λ m l e. pin-to (λ n. n ≡ 1) 1 x (c .mark) m (λ _ _. refl) e;
     makers = λ m l e. pin-to (λ n. n ≡ 2) 1 x (c .mark) m (λ _ z. omega arith) e;
   }
 
-  pub meter-rises : Rises c (c .mark) toMeter
+  pub meter-rises : Rises c (c .mark) (toMeter c x)
   meter-rises = record { meters = meter-tightens .meters; makers = λ m l e. pin-from (λ n. n ≡ 2) 1 x (c .mark) m e (λ z. omega arith) }
 
-  pub maker-tightens : Tightens c (c .mark) toMaker
+  pub maker-tightens : Tightens c (c .mark) (toMaker c x)
   maker-tightens = record {
     meters = λ m l e. pin-to (λ n. n ≡ 1) 2 x (c .mark) m (λ _ z. omega arith) e;
     makers = λ m l e. pin-to (λ n. n ≡ 2) 2 x (c .mark) m (λ _ _. refl) e;
   }
 
-  pub maker-rises : Rises c toMaker (c .mark)
+  pub maker-rises : Rises c (toMaker c x) (c .mark)
   maker-rises = record { meters = λ m l e. pin-from (λ n. n ≡ 1) 2 x (c .mark) m e (λ z. omega arith); makers = maker-tightens .makers }
 
 -- a side that separates still does after its own module was pinned to the meter, or another one to the maker

@@ -3,24 +3,12 @@
 use mathlib.Core.Path.{_≡_, refl, _∙_}
 use mathlib.Core.Logic.{_↔_}
 use mathlib.Core.Bool.{Bool, true, false, _||_}
-use mathlib.Core.List.{List, [], _∷_, List·Permᴰ, List·Permᴰ·nil, List·Permᴰ·cons, List·Permᴰ·swap, List·Permᴰ·trans}
+use mathlib.Core.List.{List, List·Permᴰ, List·Permᴰ·nil, List·Permᴰ·cons, List·Permᴰ·swap, List·Permᴰ·trans}
 use Prim.Native.Nat.{ℕ}
 use native.Mathlib.Omega.{arith}
-use Rattle.line.specs.Card.{Net, Card, Side, outside, touches, crosses, cost, price, Separates, Cheapest, Near, Far}
+use Rattle.line.specs.Card.{Net, Card, Side, outside, touches, crosses, cost, price, Separates, Cheapest, Near, Far, Repinned, Reordered, none, next, swap, then, renet}
 use Rattle.line.proofs.Lattice.{Same, same-back, separates-same, best-same, nearest-same, farthest-same}
 use Rattle.line.proofs.Cheap.{cut, to-best, of-best, to-near, of-near, to-far, of-far}
-
--- one net in two orders of its pins
-pub record Repinned (n k : Net) : Type 0 where
-  pub weight : n .weight ≡ k .weight
-  pub pins : List·Permᴰ (n .pins) (k .pins)
-
--- the same nets in two orders, each with its pins in two orders
-pub data Reordered : List Net → List Net → Type 0 where
-  none : Reordered [] []
-  next : {n k : Net} {ns ks : List Net} → Repinned n k → Reordered ns ks → Reordered (n ∷ ns) (k ∷ ks)
-  swap : {n k : Net} {ns : List Net} → Reordered (n ∷ k ∷ ns) (k ∷ n ∷ ns)
-  then : {ns ks ls : List Net} → Reordered ns ks → Reordered ks ls → Reordered ns ls
 
 touches-order : (s : Side) {ps qs : List ℕ} → List·Permᴰ ps qs → touches s ps ≡ touches s qs
 unfolding touches
@@ -45,10 +33,6 @@ price-order none s = refl
 price-order (next e p) s = omega (arith, cost-order s e, price-order p s)
 price-order swap s = omega arith
 price-order (then p q) s = price-order p s ∙ price-order q s
-
--- the card c with the nets ks
-abbrev pub renet : Card → List Net → Card
-renet c ks = record { modules = c .modules; mark = c .mark; nets = ks }
 
 module _ (c : Card) (ks : List Net) (o : Reordered (c .nets) ks) (s : Side) where
   -- modules, marks and prices are the same, and nothing else counts

@@ -11,11 +11,11 @@ use lib.IntN.{ℤ, pos}
 use lib.Signed.{_≤ℤ_}
 use lib.ListN.{length, take, drop, getD}
 use lib.Dec.{T, eqb, eqb→eq, leb→le}
-use Rattle.line.specs.Card.{Net, Card, Side, outside, allPins, Separates, Inside}
+use Rattle.line.specs.Card.{Net, Card, Side, outside, allPins, Separates, Inside, remark}
 use Rattle.line.specs.Flow.{sent, taken, totalSent, flowAt, EachNet, NetRule, meters, only, Fair, value}
 use Rattle.line.proofs.Ways.{Ways, later, meets, crossesBy, costBy, priceBy, CheapestBy, NearBy, FarBy, EachBy, NetRoles, FairBy, NetKeepsBy, ClosedBy}
 use Rattle.line.proofs.Sums.{is-pos, le-pos, sumAt, everywhere, flow-diff, total-diff, sum-sent, sumAt-append, sumAt-all, bit, sumAt-split, sumAt-out, level-modules, sumAt-zeros, zeros-sumAt, diff-same}
-use Rattle.line.proofs.Lattice.{remark, Tightens}
+use Rattle.line.proofs.Lattice.{Tightens}
 use Rattle.line.proofs.Bools.{or-r, in-of, clash}
 
 -- a card whose pins name modules and whose marks are three: every book that is read gives one
