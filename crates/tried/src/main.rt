@@ -2,7 +2,9 @@
 mod make;
 mod reader;
 mod say;
+mod sides;
 
 fn main() {
     reader::run();
+    sides::run();
 }

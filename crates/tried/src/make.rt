@@ -77,3 +77,33 @@ pub fn put_pins(book: &mut [u8; 8000], start: usize, pins: usize, each: usize)
         p += 1;
     }
 }
+
+// Bridge, at the start of a buffer.
+pub fn bridge() -> [u8; 8000] {
+    let mut book = [0u8; 8000];
+    put_contents(&mut book, 16, 12, 12);
+    put_pair(&mut book, 32, 3, 1);
+    put_pair(&mut book, 36, 2, 0);
+    put_pair(&mut book, 40, 2, 0);
+    put_pair(&mut book, 44, 4, 2);
+    put_pair(&mut book, 48, 2, 2);
+    put_pair(&mut book, 52, 1, 2);
+    put_pair(&mut book, 56, 2, 2);
+    put_pair(&mut book, 60, 0, 1);
+    put_pair(&mut book, 64, 1, 2);
+    put_pair(&mut book, 68, 2, 3);
+    book
+}
+
+// Fan, at the start of a buffer.
+pub fn fan() -> [u8; 8000] {
+    let mut book = [0u8; 8000];
+    put_contents(&mut book, 12, 4, 6);
+    put_pair(&mut book, 32, 1, 1);
+    put_pair(&mut book, 36, 1, 0);
+    put_pair(&mut book, 40, 1, 2);
+    put_pair(&mut book, 44, 1, 3);
+    put_pair(&mut book, 48, 0, 1);
+    put16(&mut book, 52, 2);
+    book
+}

@@ -14,23 +14,6 @@ fn none() -> Put {
     Put { at: 65536, x: 0 }
 }
 
-// Bridge, at the start of a buffer.
-fn bridge() -> [u8; 8000] {
-    let mut book = [0u8; 8000];
-    make::put_contents(&mut book, 16, 12, 12);
-    make::put_pair(&mut book, 32, 3, 1);
-    make::put_pair(&mut book, 36, 2, 0);
-    make::put_pair(&mut book, 40, 2, 0);
-    make::put_pair(&mut book, 44, 4, 2);
-    make::put_pair(&mut book, 48, 2, 2);
-    make::put_pair(&mut book, 52, 1, 2);
-    make::put_pair(&mut book, 56, 2, 2);
-    make::put_pair(&mut book, 60, 0, 1);
-    make::put_pair(&mut book, 64, 1, 2);
-    make::put_pair(&mut book, 68, 2, 3);
-    book
-}
-
 // What the reader says of the first `length` bytes.
 fn read_part(book: &[u8], length: usize) {
     if length <= book.len() {
@@ -45,7 +28,7 @@ fn shown(name: &[u8], book: &[u8; 8000], length: usize) {
 
 // The first `length` bytes of Bridge with two numbers put.
 fn edited(name: &[u8], length: usize, a: Put, b: Put) {
-    let mut book = bridge();
+    let mut book = make::bridge();
     make::put16(&mut book, a.at, a.x);
     make::put16(&mut book, b.at, b.x);
     shown(name, &book, length);
@@ -53,7 +36,7 @@ fn edited(name: &[u8], length: usize, a: Put, b: Put) {
 
 // Bridge with lengths whose sum is right but for a multiple of 2^32.
 fn wrapped() {
-    let mut book = bridge();
+    let mut book = make::bridge();
     make::put32(&mut book, 18, 4294967292);
     make::put32(&mut book, 24, 44);
     make::put32(&mut book, 28, 28);
