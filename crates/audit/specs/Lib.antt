@@ -1,0 +1,6 @@
+-- What the contracts and the promises of `audit` cite.
+pub mod Rules
+pub mod Tallies
+pub mod Checker
+pub mod Certificate
+pub mod Verdicts
