@@ -16,6 +16,7 @@ pub mod Duality
 pub mod Turn
 pub mod Search
 pub mod Tree
+pub mod Below
 pub mod Area
 pub mod Small
 pub mod EverySide

@@ -1,0 +1,4 @@
+-- What the contracts of `split` cite.
+pub mod Writes
+pub mod Solved
+pub mod Splits
