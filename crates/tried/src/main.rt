@@ -1,4 +1,5 @@
 // The desk's table, run: each case prints its name and its answer, and the file `stdout` has what they should be.
+mod checks;
 mod make;
 mod reader;
 mod say;
@@ -7,4 +8,5 @@ mod sides;
 fn main() {
     reader::run();
     sides::run();
+    checks::run();
 }

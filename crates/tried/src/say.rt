@@ -1,4 +1,5 @@
 // What the table prints of an answer.
+use audit::Checked;
 use book::Reading;
 use book::Refusal;
 use libc::STDOUT_FILENO;
@@ -57,6 +58,13 @@ pub fn moved(m: Moved) {
             text(b"\n");
         }
         Moved::Refused(why) => refused(why),
+    }
+}
+
+pub fn checked(c: Checked) {
+    match c {
+        Checked::Accepted => text(b": accepted\n"),
+        Checked::Refused(why) => refused(why),
     }
 }
 
