@@ -2,3 +2,4 @@
 pub mod Writes
 pub mod Solved
 pub mod Splits
+pub mod Verdicts
