@@ -15,7 +15,7 @@ use Rattle.line.proofs.Push.{more-sent, more-taken, less-sent, less-taken}
 use Rattle.flow.specs.Cards.{Small}
 use mir.Facts.{toZ-ofZ}
 use Rattle.line.specs.Flow.{sent, taken}
-use Rattle.flow.specs.Search.{or, gives}
+use Rattle.flow.specs.Search.{or, gives, wayFrom}
 use Rattle.flow.proofs.Sets.{clash}
 
 -- ---- a signed element that was read: its bits, read back, are itself
@@ -54,6 +54,9 @@ sends-back f g = rw (read-back f g) (go f)
 -- what a test on a number that was read says
 pub read-sends : (all bk : Bool) (f : ℤ) → mag f < 2 ^ hbits w32 → or all (ltb 0 (gives bk (toZ w32 (ofZ w32 f)))) ≡ or all (ltb 0 (gives bk f))
 read-sends all bk f g = rw (read-back f g)
+
+pub read-from : (bk : Bool) (f : ℤ) (a b : ℕ) → mag f < 2 ^ hbits w32 → wayFrom (ltb 0 (gives bk (toZ w32 (ofZ w32 f)))) a b ≡ wayFrom (ltb 0 (gives bk f)) a b
+read-from bk f a b g = rw (read-back f g)
 
 pub above-true : (n : ℕ) → ltb 0 n ≡ true → 0 < n
 above-true n e = ltb→lt 0 n (subst T (sym e) tt)

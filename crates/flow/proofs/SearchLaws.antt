@@ -13,7 +13,7 @@ use native.Mathlib.Numerals.{add-one}
 use borrow.Author.Count.{below-more}
 use lib.IntN.{ℤ}
 use lib.Dec.{T, ltb, eqb, eqb→eq}
-use Rattle.flow.specs.Search.{or, gives, gift, In, zeros, rank, left, kind, entered, Pin, Way, Hop, St, st, Fresh, Grown, Room, ViaNet, Spread, Kind, Enough, Visit, Seen, Marked, ViaHop, PinDone, PinsDone, Whole, Link, Mark, Begun, Found}
+use Rattle.flow.specs.Search.{or, gives, gift, In, zeros, rank, left, kind, entered, Pin, Way, Hop, St, st, Fresh, Grown, Room, wayFrom, ViaNet, Spread, Kind, Enough, Visit, Seen, Marked, ViaHop, PinDone, PinsDone, Whole, Link, Mark, Begun, Found}
 use Rattle.flow.proofs.Pins.{pins-none, pins-more, pin-wider, split}
 use Rattle.flow.proofs.Sets.{in-eq, in-set, in-set-here, set-in, zeros-set, zeros-append, zeros-one, in-length, clash}
 use Rattle.flow.proofs.Numbers.{above-true, true-above}
@@ -129,34 +129,37 @@ grown-mark New q w t m x z lw lq r n = record {
 
 -- ---- spreading
 
-module _ (ms : List ℕ) (fl : List ℤ) (all bk : Bool) (from lo : ℕ) where
-  pub spread-none : (q w : List ℕ) (t : ℕ) → Spread ms fl all bk from lo lo q w t q w t
+module _ (ms : List ℕ) (fl : List ℤ) (all bk : Bool) (from undo lo : ℕ) where
+  pub spread-none : (q w : List ℕ) (t : ℕ) → Spread ms fl all bk from undo lo lo q w t q w t
   spread-none q w t = record {
     grown = grown-none _ q w t;
     done = λ b p g. pins-none (λ (k : ℕ). In w (getD ms k 0)) lo b p;
   }
 
-  wider : {i m x : ℕ} → ViaNet ms fl all bk from lo i m x → ViaNet ms fl all bk from lo (i + 1) m x
+  wider : {i m x : ℕ} → ViaNet ms fl all bk from undo lo i m x → ViaNet ms fl all bk from undo lo (i + 1) m x
   wider v = record { at = v .at; number = v .number; pin = pin-wider (v .pin); gives = v .gives; to = v .to }
 
-  pub spread-skip : {i t₀ t : ℕ} {q₀ w₀ q w : List ℕ} → Spread ms fl all bk from lo i q₀ w₀ t₀ q w t → (or all (ltb 0 (gift bk fl i)) ≡ true → In w (getD ms i 0)) → Spread ms fl all bk from lo (i + 1) q₀ w₀ t₀ q w t
+  pub spread-skip : {i t₀ t : ℕ} {q₀ w₀ q w : List ℕ} → Spread ms fl all bk from undo lo i q₀ w₀ t₀ q w t → (or all (ltb 0 (gift bk fl i)) ≡ true → In w (getD ms i 0)) → Spread ms fl all bk from undo lo (i + 1) q₀ w₀ t₀ q w t
   spread-skip {i} {t₀} {t} {q₀} {w₀} {q} {w} k h = record {
     grown = grown-map (λ m x. wider) (k .grown);
     done = pins-more (λ (b : ℕ). or all (ltb 0 (gift bk fl b)) ≡ true → In w (getD ms b 0)) lo i (k .done) h;
   }
 
-  pub spread-mark : {i t₀ t : ℕ} {q₀ w₀ q w : List ℕ} → Spread ms fl all bk from lo i q₀ w₀ t₀ q w t → lo ≤ i → or all (ltb 0 (gift bk fl i)) ≡ true → (m : ℕ) → m ≡ getD ms i 0
-      → getD w m 0 ≡ 0 → m < length w → t < length q → from + i < 4294967296 → {x qm : ℕ} → x ≡ (t + 1) * 4294967296 + from + i → qm ≡ m
-      → Spread ms fl all bk from lo (i + 1) q₀ w₀ t₀ (set q t qm) (set w m x) (t + 1)
-  spread-mark {i} {t₀} {t} {q₀} {w₀} {q} {w} k li g m e z lw lq lfi {x} {qm} ex eq = rw eq (record {
+  pub spread-mark : {i t₀ t : ℕ} {q₀ w₀ q w : List ℕ} → Spread ms fl all bk from undo lo i q₀ w₀ t₀ q w t → lo ≤ i → or all (ltb 0 (gift bk fl i)) ≡ true → (m : ℕ) → m ≡ getD ms i 0
+      → getD w m 0 ≡ 0 → m < length w → t < length q → {f : ℕ} → f ≡ wayFrom (ltb 0 (gift bk fl i)) from undo → f + i < 4294967296 → {x qm : ℕ} → x ≡ (t + 1) * 4294967296 + f + i → qm ≡ m
+      → Spread ms fl all bk from undo lo (i + 1) q₀ w₀ t₀ (set q t qm) (set w m x) (t + 1)
+  spread-mark {i} {t₀} {t} {q₀} {w₀} {q} {w} k li g m e z lw lq {f} ef lfi {x} {qm} ex eq = rw eq (record {
     grown = grown-trans (grown-map (λ m x. wider) (k .grown)) step;
     done = pins-more (λ (b : ℕ). or all (ltb 0 (gift bk fl b)) ≡ true → In (set w m x) (getD ms b 0)) lo i
         (λ b p q. grows step (getD ms b 0) (k .done b p q))
         (λ q. subst (λ (j : ℕ). In (set w m x) j) e (in-set-here w m x (omega arith) lw));
   })
     where
-      step : Grown (ViaNet ms fl all bk from lo (i + 1)) q w t (set q t m) (set w m x) (t + 1)
-      step = grown-mark _ q w t m x z lw lq (omega arith) (record { at = i; number = omega arith; pin = record { low = li; high = omega arith }; gives = g; to = sym e })
+      numbered : x ≡ rank x * 4294967296 + wayFrom (ltb 0 (gift bk fl i)) from undo + i
+      numbered = omega (arith, ex, lfi, ef)
+
+      step : Grown (ViaNet ms fl all bk from undo lo (i + 1)) q w t (set q t m) (set w m x) (t + 1)
+      step = grown-mark _ q w t m x z lw lq (omega arith) (record { at = i; number = numbered; pin = record { low = li; high = omega arith }; gives = g; to = sym e })
 
 -- ---- room for one more
 
@@ -205,6 +208,15 @@ way-of bk fl sum weight k a b takes all et kd ea g = record {
   back = λ e. above-true (gift bk fl b) (subst (λ (z : Bool). or z (ltb 0 (gift bk fl b)) ≡ true) (ea e) g);
 }
 
+-- a step to a pin that sends, whatever the kind of those to the others
+way-back : (bk : Bool) (fl : List ℤ) (sum weight a b : ℕ) → 0 < gift bk fl b → Way bk fl sum weight 2 a b
+way-back bk fl sum weight a b h = record { small = omega arith; room = λ e. absurd (omega arith); less = λ e. absurd (omega arith); back = λ _. h }
+
+-- the kind of the step to pin b
+abbrev kindTo : Bool → ℕ → ℕ
+kindTo true k = 2
+kindTo false k = k
+
 or-right : (x : Bool) {y : Bool} → y ≡ true → or x y ≡ true
 or-right true e = refl
 or-right false e = e
@@ -244,9 +256,9 @@ module _ (bk : Bool) (fs ms ws : List ℕ) (fl : List ℤ) (sm nt : List ℕ) (a
         e;
   }
 
-  module _ (all : Bool) (ea : k ≡ 2 → all ≡ false) (eb : (k ≡ 2 → ⊥) → all ≡ true) (from r : ℕ) (ef : from ≡ (a * 4 + k) * 65536) (r1 : k ≡ 2 → r ≡ 1) (r2 : (k ≡ 2 → ⊥) → r ≡ a + 2) where
+  module _ (all : Bool) (ea : k ≡ 2 → all ≡ false) (eb : (k ≡ 2 → ⊥) → all ≡ true) (from undo r : ℕ) (ef : from ≡ (a * 4 + k) * 65536) (eu : undo ≡ (a * 4 + 2) * 65536) (r1 : k ≡ 2 → r ≡ 1) (r2 : (k ≡ 2 → ⊥) → r ≡ a + 2) where
     pub pin-spread : (s : St) (t : ℕ) (q w : List ℕ) (t′ : ℕ) → Seen bk fs ms ws fl (s .w) (s .sn) → (Enough (getD (s .sn) (getD nt a 0) 0) k → ⊥) → getD nt a 0 < length (s .sn) →
-        Spread ms fl all bk from (getD fs (getD nt a 0) 0) (getD fs (getD nt a 0 + 1) 0) (s .q) (s .w) t q w t′ →
+        Spread ms fl all bk from undo (getD fs (getD nt a 0) 0) (getD fs (getD nt a 0 + 1) 0) (s .q) (s .w) t q w t′ →
         PinDone bk fs ms ws fl sm nt a s t (st q w (set (s .sn) (getD nt a 0) r)) t′
     pin-spread s t q w t′ seen ne ln sp = record {
       grown = grown-map via (sp .grown);
@@ -261,20 +273,33 @@ module _ (bk : Bool) (fs ms ws : List ℕ) (fl : List ℤ) (sm nt : List ℕ) (a
         sn′ : List ℕ
         sn′ = set (s .sn) n r
 
-        reads : (m x : ℕ) → (y : ViaNet ms fl all bk from (getD fs n 0) (getD fs (n + 1) 0) m x) → Read a k (y .at) x
-        reads m x y = read a k (y .at) (rank x) x (omega (arith, v .pin, v .few)) (kd .small) (omega (arith, y .pin .high, v .ends, v .few)) (y .number ∙ ap (λ (f : ℕ). rank x * 4294967296 + f + y .at) ef)
+        -- the number says pin a, the kind of the step, and the pin entered
+        told : (m x : ℕ) → (y : ViaNet ms fl all bk from undo (getD fs n 0) (getD fs (n + 1) 0) m x) → (g : Bool) → x ≡ rank x * 4294967296 + wayFrom g from undo + y .at → Read a (kindTo g k) (y .at) x
+        told m x y true e = read a 2 (y .at) (rank x) x (omega (arith, v .pin, v .few)) (omega arith) (omega (arith, y .pin .high, v .ends, v .few)) (e ∙ ap (λ (f : ℕ). rank x * 4294967296 + f + y .at) eu)
+        told m x y false e = read a k (y .at) (rank x) x (omega (arith, v .pin, v .few)) (kd .small) (omega (arith, y .pin .high, v .ends, v .few)) (e ∙ ap (λ (f : ℕ). rank x * 4294967296 + f + y .at) ef)
 
-        via : (m x : ℕ) → ViaNet ms fl all bk from (getD fs n 0) (getD fs (n + 1) 0) m x → ViaHop bk fs ms ws fl sm nt (getD ms a 0) m x
+        reads : (m x : ℕ) → (y : ViaNet ms fl all bk from undo (getD fs n 0) (getD fs (n + 1) 0) m x) → Read a (kindTo (ltb 0 (gift bk fl (y .at))) k) (y .at) x
+        reads m x y = told m x y (ltb 0 (gift bk fl (y .at))) (y .number)
+
+        way-to : (b : ℕ) (g : Bool) → (g ≡ true → 0 < gift bk fl b) → or all (ltb 0 (gift bk fl b)) ≡ true → Way bk fl (getD sm n 0) (getD ws n 0) (kindTo g k) a b
+        way-to b true f g = way-back bk fl _ _ a b (f refl)
+        way-to b false f g = way-of bk fl _ _ k a b takes all et kd ea g
+
+        via : (m x : ℕ) → ViaNet ms fl all bk from undo (getD fs n 0) (getD fs (n + 1) 0) m x → ViaHop bk fs ms ws fl sm nt (getD ms a 0) m x
         via m x y = let z = reads m x y in record {
           from = ap (λ (i : ℕ). getD ms i 0) (z .left);
-          hop = rw (z .left, z .kind, z .entered) (record { leaves = v .on; enters = y .pin; small = v .net; way = way-of bk fl _ _ k a (y .at) takes all et kd ea (y .gives) });
+          hop = rw (z .left, z .kind, z .entered) (record { leaves = v .on; enters = y .pin; small = v .net; way = way-to (y .at) (ltb 0 (gift bk fl (y .at))) (above-true (gift bk fl (y .at))) (y .gives) });
           to = ap (λ (i : ℕ). getD ms i 0) (z .entered) ∙ y .to;
         }
+
+        no-room : (g : Bool) → kindTo g k ≡ 0 → k ≡ 0
+        no-room true e = absurd (omega arith)
+        no-room false e = e
 
         opens : (m : ℕ) → In w m → In (s .w) m ⊎ (kind (getD w m 0) ≡ 0 → getD sn′ (getD nt (left (getD w m 0)) 0) 0 ≡ left (getD w m 0) + 2)
         opens m i = ⊎-elim inl
             (λ f. let z = reads m (getD w m 0) (f .how) in
-            inr (λ e. let q0 : k ≡ 0 = sym (z .kind) ∙ e in
+            inr (λ e. let q0 : k ≡ 0 = no-room (ltb 0 (gift bk fl (f .how .at))) (sym (z .kind) ∙ e) in
             ap (λ (j : ℕ). getD sn′ (getD nt j 0) 0) (z .left) ∙ getD-set-same (s .sn) n r 0 ln ∙ r2 (λ q. absurd (omega arith)) ∙ ap (λ (j : ℕ). j + 2) (sym (z .left))))
             (sp .grown .new m i)
 
@@ -296,8 +321,8 @@ module _ (bk : Bool) (fs ms ws : List ℕ) (fl : List ℤ) (sm nt : List ℕ) (a
             go (no e) = grows (sp .grown) (getD ms b 0) (seen .whole n′ l (subst (λ (i : ℕ). 1 < i) (getD-set-other (s .sn) n n′ r 0 e) h) b p)
 
 -- the same, as the code has its locals
-pub spread-at : {ms : List ℕ} {fl : List ℤ} {all bk : Bool} {from lo lo′ hi hi′ t t′ : ℕ} {q₀ w₀ q w : List ℕ} → lo ≡ lo′ → hi ≡ hi′ →
-    Spread ms fl all bk from lo hi q₀ w₀ t q w t′ → Spread ms fl all bk from lo′ hi′ q₀ w₀ t q w t′
+pub spread-at : {ms : List ℕ} {fl : List ℤ} {all bk : Bool} {from undo lo lo′ hi hi′ t t′ : ℕ} {q₀ w₀ q w : List ℕ} → lo ≡ lo′ → hi ≡ hi′ →
+    Spread ms fl all bk from undo lo hi q₀ w₀ t q w t′ → Spread ms fl all bk from undo lo′ hi′ q₀ w₀ t q w t′
 spread-at el eh k = rw (← el, ← eh) k
 
 pub kind-all : (k : ℕ) → k ≡ 2 → not (eqb k 2) ≡ false

@@ -105,16 +105,21 @@ pub record Room (ms q w : List ℕ) (t : ℕ) : Type 0 where
   pub full : t + zeros w ≡ length w
   pub few : length w < 65535
 
+-- a step to a pin that sends is by that pin, which sends less; to any other by what the pin left has
+abbrev pub wayFrom : Bool → ℕ → ℕ → ℕ
+wayFrom true from undo = undo
+wayFrom false from undo = from
+
 -- spread over the pins lo up to i
-pub record ViaNet (ms : List ℕ) (fl : List ℤ) (all bk : Bool) (from lo i m x : ℕ) : Type 0 where
+pub record ViaNet (ms : List ℕ) (fl : List ℤ) (all bk : Bool) (from undo lo i m x : ℕ) : Type 0 where
   pub at : ℕ
-  pub number : x ≡ rank x * 4294967296 + from + at
+  pub number : x ≡ rank x * 4294967296 + wayFrom (ltb 0 (gift bk fl at)) from undo + at
   pub pin : Pin lo i at
   pub gives : or all (ltb 0 (gift bk fl at)) ≡ true
   pub to : getD ms at 0 ≡ m
 
-pub record Spread (ms : List ℕ) (fl : List ℤ) (all bk : Bool) (from lo i : ℕ) (q₀ w₀ : List ℕ) (t₀ : ℕ) (q w : List ℕ) (t : ℕ) : Type 0 where
-  pub grown : Grown (ViaNet ms fl all bk from lo i) q₀ w₀ t₀ q w t
+pub record Spread (ms : List ℕ) (fl : List ℤ) (all bk : Bool) (from undo lo i : ℕ) (q₀ w₀ : List ℕ) (t₀ : ℕ) (q w : List ℕ) (t : ℕ) : Type 0 where
+  pub grown : Grown (ViaNet ms fl all bk from undo lo i) q₀ w₀ t₀ q w t
   pub done : (b : ℕ) → Pin lo i b → or all (ltb 0 (gift bk fl b)) ≡ true → In w (getD ms b 0)
 
 -- ---- a visit of one pin

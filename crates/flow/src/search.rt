@@ -3,13 +3,14 @@ ghost use mathlib.Core.Bool.{true, false};
 ghost use Prim.Native.Nat.{_+_, _*_, _≤_, _<_};
 ghost use lib.ListN.{length, getD};
 ghost use lib.Dec.{ltb};
-ghost use Rattle.flow.specs.Search.{or, gives, st, Room, Spread, PinDone, PinsDone, Whole, Seen, Begun, Sizes, Found, Kind, Enough, Visit, Mark};
+ghost use Rattle.flow.specs.Search.{or, gives, wayFrom, st, Room, Spread, PinDone, PinsDone, Whole, Seen, Begun, Sizes, Found, Kind, Enough, Visit, Mark};
 
 // How the pins of one net are gone through: the pins lo .. hi, all of them or those that send; `from` is the pin left and the kind of step.
 struct Scan {
     lo: usize,
     hi: usize,
     from: u64,
+    undo: u64,
     all: bool,
     back: bool,
 }
@@ -40,6 +41,18 @@ fn picks(all: bool, back: bool, f: i32) -> bool
     crate::num::sends(back, f)
 }
 
+// A step to a pin that sends is by that pin, which sends less: that room is not the net's, which may be small however much the pin sends.
+fn way_from(from: u64, undo: u64, back: bool, f: i32) -> u64
+    requires { ⌜ (from ≤ 4294901760) × (undo ≤ 4294901760) ⌝ }
+    ensures { λ r. ⌜ (r ≡ wayFrom (ltb 0 (gives back f)) from undo) × (r ≤ 4294901760) ⌝ }
+{
+    if crate::num::sends(back, f) {
+        undo
+    } else {
+        from
+    }
+}
+
 // Reaches the modules of a net's pins, all or those that send; the queue's tail goes from t to the result.
 fn spread(
     mods: &[u16],
@@ -49,8 +62,8 @@ fn spread(
     queue: &mut [u16],
     how: &mut [u64],
 ) -> usize
-    requires { ⌜ (scan .lo ≤ scan .hi) × (scan .hi ≤ length (now mods)) × (scan .hi ≤ length (now flow)) × (scan .hi < 16384) × (scan .from ≤ 4294901760) × Room (now mods) (now queue) (now how) t ⌝ }
-    ensures { λ r. ⌜ Spread (now (mods .entry)) (now (flow .entry)) (scan .all) (scan .back) (scan .from) (scan .lo) (scan .hi) (now (queue .entry)) (now (how .entry)) t (now (queue .exit)) (now (how .exit)) r ⌝ }
+    requires { ⌜ (scan .lo ≤ scan .hi) × (scan .hi ≤ length (now mods)) × (scan .hi ≤ length (now flow)) × (scan .hi < 16384) × (scan .from ≤ 4294901760) × (scan .undo ≤ 4294901760) × Room (now mods) (now queue) (now how) t ⌝ }
+    ensures { λ r. ⌜ Spread (now (mods .entry)) (now (flow .entry)) (scan .all) (scan .back) (scan .from) (scan .undo) (scan .lo) (scan .hi) (now (queue .entry)) (now (how .entry)) t (now (queue .exit)) (now (how .exit)) r ⌝ }
 {
     let mut tail = t;
     let mut i = scan.lo;
@@ -61,7 +74,8 @@ fn spread(
             let g = picks(scan.all, scan.back, flow[i]);
             if g {
                 queue[tail] = mods[i];
-                how[m] = pack(tail + 1, scan.from, i);
+                let from = way_from(scan.from, scan.undo, scan.back, flow[i]);
+                how[m] = pack(tail + 1, from, i);
                 tail += 1;
             }
         }
@@ -70,14 +84,18 @@ fn spread(
     tail
 }
 
-// The kind of the steps that leave by pin a: 0 by the net's room, 1 by pin a, 2 by the pins that send alone.
+// The kind of the steps that leave by pin a: 1 by pin a, which takes less, else 0 by the net's room, else 2 by the pins that send alone. What a pin takes comes first, since the net's room may be small however much the pin takes.
 fn kind_of(sum: u32, weight: u16, takes: bool) -> u8
     ensures { λ r. ⌜ Kind sum weight takes r ⌝ }
 {
-    if sum < crate::num::wide32(weight) {
-        return 0;
+    if takes {
+        return 1;
     }
-    if takes { 1 } else { 2 }
+    if sum < crate::num::wide32(weight) {
+        0
+    } else {
+        2
+    }
 }
 
 // Is there nothing new to be had from a net with the mark s by steps of this kind?
@@ -131,10 +149,12 @@ fn visit_pin(
     let lo = crate::num::wide(first[n]);
     let hi = crate::num::wide(first[n + 1]);
     let from = pack_from(a, kind);
+    let undo = pack_from(a, 2);
     let scan = Scan {
         lo: lo,
         hi: hi,
         from: from,
+        undo: undo,
         all: kind != 2,
         back: back,
     };

@@ -1,13 +1,13 @@
 -- What the engine makes of the slices loaded from a sound book is the split of its card. Assumes nothing.
-use mathlib.Core.Path.{_≡_, refl, sym, ap, _∙_}
+use mathlib.Core.Path.{_≡_, sym, ap, _∙_}
 use mathlib.Core.List.{List}
-use Prim.Native.Nat.{ℕ, _+_, _≤_, _<_}
+use Prim.Native.Nat.{ℕ, _≤_}
 use native.Mathlib.Omega.{arith}
 use lib.IntN.{ℤ, pos}
 use lib.ListN.{length, getD}
-use Rattle.line.specs.Card.{Card, price, Alike}
+use Rattle.line.specs.Card.{Alike}
 use Rattle.line.proofs.Search.{Still}
-use Rattle.book.specs.Format.{modules, nets, pins, mark, weight, pin, firstPin}
+use Rattle.book.specs.Format.{modules, nets, pins, mark, weight, pin}
 use Rattle.book.specs.Listed.{listed}
 use Rattle.book.specs.Sound.{Sound}
 use Rattle.book.specs.Cards as book
@@ -15,7 +15,7 @@ use Rattle.book.proofs.Elements.{length-listed, getD-listed}
 use Rattle.side.specs.Sides.{sideOf, bytesFor}
 use Rattle.flow.specs.Cards.{cardOf}
 use Rattle.flow.proofs.Raised.{zeros-fair}
-use Rattle.split.specs.Solved.{Row, Rooms, Slices, Begins, Solved}
+use Rattle.split.specs.Solved.{Slices, Begins, Solved}
 use Rattle.split.proofs.SameCard.{firstsOf, modsOf, weightsOf, slices-laid, near-slices, far-slices, fair-slices, value-slices, price-slices}
 
 abbrev pub marksOf : List ℕ → List ℕ

@@ -1,7 +1,7 @@
 -- The numbers of a sound book fit the engine's slices. Assumes nothing.
 use mathlib.Core.Path.{_≡_, refl}
 use mathlib.Core.List.{List}
-use Prim.Native.Nat.{ℕ, _≤_, _<_}
+use Prim.Native.Nat.{ℕ, _≤_}
 use native.Mathlib.Omega.{arith}
 use Rattle.book.specs.Format.{nets, pins, firstPin}
 use Rattle.book.specs.Sound.{Sound}

@@ -1,22 +1,20 @@
 -- The card that the loaded slices are is the book's card, with whatever marks: what is near, far or fair on the one is so on the other, at the same price and value.
 -- Assumes nothing.
 use mathlib.Core.Path.{_≡_, refl, sym, ap, _∙_, subst}
-use mathlib.Core.Bool.{Bool, cond}
 use mathlib.Core.List.{List, [], _∷_, List·Memᴰ, List·Memᴰ·head, List·Memᴰ·tail}
-use Prim.Native.Nat.{ℕ, suc, _+_, _-_, _≤_, _<_}
+use Prim.Native.Nat.{ℕ, _+_, _-_, _≤_, _<_}
 use native.Mathlib.Omega.{arith}
 use native.Mathlib.Nat.{zero-add}
 use lib.Dec.{eqb}
-use lib.IntN.{ℤ, pos, _+ℤ_}
+use lib.IntN.{ℤ}
 use lib.ListN.{length, getD, take, drop, length-drop}
 use lib.Seq.{ext-getD, getD-take, getD-drop, length-take-le}
 use Rattle.line.specs.Card.{Net, Card, Side, price, allPins, Alike, Near, Far, remark}
 use Rattle.line.specs.Flow.{EachNet, NetRule, Fair, value, flowAt, meters}
-use Rattle.line.proofs.Index.{netAt, noNet}
+use Rattle.line.proofs.Index.{noNet}
 use Rattle.line.proofs.Lattice.{Same, nearest-same, farthest-same}
 use Rattle.line.proofs.Cheap.{cut, to-near, of-near, to-far, of-far}
-use Rattle.line.proofs.WayFlow.{Valid}
-use Rattle.book.specs.Format.{modules, nets, pins, mark, weight, pin, pinCount, firstPin}
+use Rattle.book.specs.Format.{modules, nets, pins, weight, pin, pinCount, firstPin}
 use Rattle.book.specs.Listed.{listed}
 use Rattle.book.specs.Sound.{Sound}
 use Rattle.book.specs.Cards as book

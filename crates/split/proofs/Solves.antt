@@ -6,14 +6,14 @@ use Prim.Native.Nat.{ℕ, _≤_, _<_}
 use native.Mathlib.Omega.{arith}
 use lib.IntN.{ℤ, pos}
 use lib.ListN.{length, getD}
-use Rattle.line.specs.Card.{Card, Side, outside, Alike, Near, Far}
+use Rattle.line.specs.Card.{Card, outside, Alike, Far}
 use Rattle.line.proofs.Below.{price-alike, near-alike, far-alike}
 use Rattle.side.specs.Sides as sides
 use Rattle.flow.specs.Cards.{cardOf, sideOf}
 use Rattle.flow.specs.Raise.{Engine, Raised}
 use Rattle.flow.proofs.CardLaws.{card-valid}
 use Rattle.flow.proofs.Raised.{raised-small}
-use Rattle.split.specs.Writes.{pickedOf, Written}
+use Rattle.split.specs.Writes.{Written}
 use Rattle.split.specs.Solved.{Row, Solved}
 
 -- a side that was written is a row of bits, and is what the search says

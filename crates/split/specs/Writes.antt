@@ -5,7 +5,6 @@ use mathlib.Core.Bool.{Bool, true, false, not, cond}
 use mathlib.Core.List.{List}
 use lib.Dec.{eqb, ltb}
 use lib.ListN.{length, getD, set, drop}
-use Rattle.line.specs.Card.{Side}
 use Rattle.side.specs.Sides.{sideOf, bytesFor, SpareClear, withBit}
 
 -- the byte of module m cleared, where m is its first

@@ -1,6 +1,5 @@
 use Rattle.split.specs.Splits.{tooShort}
 use borrow.Author.Needs.{needs}
-use native.Mathlib.Omega.{arith}
 use Rattle.split.proofs.is_short.Statement.{statement}
 use Rattle.split.proofs.is_short.Tie as tie
 

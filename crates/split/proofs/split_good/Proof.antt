@@ -1,8 +1,6 @@
 use Rattle.split.proofs.Held.{room-of}
-use mathlib.Core.Bool.{true, false}
-use mathlib.Core.Path.{_≡_, refl, sym, _∙_}
+use mathlib.Core.Path.{refl, sym, _∙_}
 use borrow.Author.Needs.{needs}
-use native.Mathlib.Omega.{arith}
 use Rattle.split.proofs.split_good.Statement.{statement}
 use Rattle.split.proofs.split_good.Tie as tie
 

@@ -1,7 +1,6 @@
 use Rattle.split.proofs.Loaded.{slices-loaded, begins-loaded, solved-loaded}
 use mathlib.Core.Path.{_∙_}
 use borrow.Author.Needs.{needs}
-use native.Mathlib.Omega.{arith}
 use Rattle.split.proofs.split_loaded.Statement.{statement}
 use Rattle.split.proofs.split_loaded.Tie as tie
 

@@ -1,6 +1,6 @@
 use Rattle.split.proofs.Held.{holds-of}
 use lib.Seq.{length-take-le}
-use mathlib.Core.Path.{_≡_, sym, _∙_}
+use mathlib.Core.Path.{sym, _∙_}
 use borrow.Author.Needs.{needs}
 use native.Mathlib.Omega.{arith}
 use Rattle.split.proofs.split_sound.Statement.{statement}

@@ -1,6 +1,5 @@
 use borrow.Author.Tests.{eq-eqb, ne-eqb}
 use borrow.Author.Needs.{needs}
-use native.Mathlib.Omega.{arith}
 use Rattle.split.proofs.bits.open_byte.Statement.{statement}
 use Rattle.split.proofs.bits.open_byte.Tie as tie
 

@@ -1,5 +1,3 @@
-use borrow.Author.Needs.{needs}
-use native.Mathlib.Omega.{arith}
 use Rattle.split.proofs.bits.picked.Statement.{statement}
 use Rattle.split.proofs.bits.picked.Tie as tie
 

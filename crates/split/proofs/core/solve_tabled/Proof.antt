@@ -1,5 +1,4 @@
 use borrow.Author.Needs.{needs}
-use native.Mathlib.Omega.{arith}
 use Rattle.split.proofs.core.solve_tabled.Statement.{statement}
 use Rattle.split.proofs.core.solve_tabled.Tie as tie
 

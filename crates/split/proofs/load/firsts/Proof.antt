@@ -1,10 +1,10 @@
 use Rattle.split.proofs.Loads.{first-zero, first-most}
 use Rattle.split.proofs.Fills.{fill-start, fill-next, filled}
-use Rattle.book.proofs.CardLaws.{firstPin-suc, firstPin-mono}
+use Rattle.book.proofs.CardLaws.{firstPin-suc}
 use Rattle.book.specs.Format.{firstPin, nets}
 use Rattle.book.specs.Listed.{listed}
 use lib.ListN.{length, take, set, length-set}
-use Prim.Native.Nat.{_≤_, _<_, _-_, _+_, _*_}
+use Prim.Native.Nat.{_≤_, _-_, _+_}
 use mathlib.Core.Path.{_≡_, ap, _∙_}
 use borrow.Author.Needs.{needs}
 use native.Mathlib.Omega.{arith}

@@ -2,7 +2,7 @@ use Rattle.split.proofs.Fills.{fill-start, fill-next, filled}
 use Rattle.book.specs.Format.{weight}
 use Rattle.book.specs.Listed.{listed}
 use lib.ListN.{length, take, length-set}
-use Prim.Native.Nat.{_≤_, _<_, _-_}
+use Prim.Native.Nat.{_≤_, _-_}
 use mathlib.Core.Path.{_≡_, _∙_}
 use borrow.Author.Needs.{needs}
 use native.Mathlib.Omega.{arith}
