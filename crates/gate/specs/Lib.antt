@@ -1,0 +1,2 @@
+-- What the contracts and the laws of `gate` cite.
+pub mod Gates
