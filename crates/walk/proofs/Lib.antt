@@ -7,6 +7,7 @@ pub mod Loop
 pub mod Choice
 pub mod Plain
 pub mod Call
+pub mod Books
 pub mod Cuts
 pub mod Marks
 pub mod Bytes
