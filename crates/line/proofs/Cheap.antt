@@ -76,14 +76,6 @@ module _ (c : Card) where
     pub near-stays : Separates (remark c k) s → Near (remark c j) s → Near (remark c k) s
     near-stays still p = of-near (remark c k) s (Lattice.near-stays (cut c) c j k g s still (to-near (remark c j) s p))
 
-  -- the free modules of x are pinned: to the meter the near side grows, to the maker it shrinks
-  module _ (x s t : Side) (p : Near c s) where
-    pub meter-holds : Near (remark c (toMeter c x)) t → Inside c s t
-    meter-holds q = Lattice.near-rises (cut c) sub c (c .mark) (toMeter c x) (Lattice.meter-rises c x) s t (to-near c s p) (to-near (remark c (toMeter c x)) t q)
-
-    pub maker-holds : Near (remark c (toMaker c x)) t → Inside c t s
-    maker-holds q = Lattice.near-rises (cut c) sub c (toMaker c x) (c .mark) (Lattice.maker-rises c x) t s (to-near (remark c (toMaker c x)) t q) (to-near c s p)
-
   -- one free module v more is pinned to the meter: the near side t after holds the near side s before, and v; its price is no lower; both are as before if v was in s
   module _ (v : ℕ) (s t : Side) (p : Near c s) (q : Near (remark c (toMeter c (only v))) t) where
     pub pin-holds : Inside c s t

@@ -363,11 +363,5 @@ module _ (w : Ways) (c : Card) (xs : List ℤ) (top : ℕ) (ts : List Step) (f :
   pub augment-ready : Ready w c xs most ts
   augment-ready = record { long = r .long; sound = r .sound; spare = least-spare c xs w top most ts (f .fair .nets) (r .sound) (omega arith); apart = r .apart }
 
-  pub augment-more : 0 < most
-  augment-more = least-above c xs top 1 ts cap (r .spare)
-
   pub augment-fair : FairBy w c (pushAll c xs most ts)
   augment-fair = path-fair w c most xs ts augment-ready h u l (λ e. absurd (omega (arith, e, meter))) (λ e. absurd (omega (arith, e, maker))) f
-
-  pub augment-value : value c (pushAll c xs most ts) ≡ value c xs +ℤ pos most
-  augment-value = path-value w c most xs ts augment-ready h u l meter (λ e. absurd (omega (arith, e, maker)))

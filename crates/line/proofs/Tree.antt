@@ -1,24 +1,25 @@
--- A search tree that holds a maker gives a path that can be pushed: the walk up from the maker (`tree-fair`, `tree-value`). Each module in the tree that is no meter has
+-- A search tree that holds a maker gives a path that can be pushed: the walk up from the maker (`walk-ready`, `walk-leads`). Each module in the tree that is no meter has
 -- the step `up` by which it was reached, from a module of lower rank; the room of a net is used from one of its pins alone, its opener, so no two steps of a walk use it.
 -- Assumes nothing.
+use it.
+-- Assumes nothing.
 use mathlib.Core.Path.{_≡_, refl, sym, ap, _∙_}
-use mathlib.Core.Logic.{_≢_, _⊎_, inl, inr}
+use mathlib.Core.Logic.{_≢_}
 use mathlib.Core.Bool.{Bool, true, false, not, cond}
 use mathlib.Core.List.{List, [], _∷_, List·Memᴰ, List·Memᴰ·head, List·Memᴰ·tail}
 use Prim.Native.Nat.{ℕ, zero, suc, _+_, _≤_, _<_}
 use native.Mathlib.Omega.{arith}
 use native.Mathlib.Nat.{not-suc-le-zero, le-of-suc-le-suc}
-use lib.IntN.{ℤ, pos}
+use lib.IntN.{ℤ}
 use lib.ListN.{length, getD}
 use lib.Dec.{T, eqb, eqb→eq, T-not}
-use Rattle.line.specs.Card.{Card, Side, either, allPins, Separates}
-use Rattle.line.specs.Flow.{only, meters, value}
-use Rattle.line.proofs.Ways.{Ways, FairBy, priceBy}
+use Rattle.line.specs.Card.{Card, Side, allPins, Separates}
+use Rattle.line.specs.Flow.{meters}
+use Rattle.line.proofs.Ways.{Ways, FairBy}
 use Rattle.line.proofs.WayFlow.{Valid}
 use Rattle.line.proofs.Index.{netAt, start, start-in, pin-at}
-use Rattle.line.proofs.Path.{Step, pinOf, tail, head, Sound, Spare, Apart, AllOf, Pairwise, LeadsBack, Ready, pushAll, least, augment-fair, augment-more}
-use Rattle.line.proofs.Search.{tree-apart, augment-now, augment-below}
-use Rattle.line.proofs.Bools.{or-split, or-l}
+use Rattle.line.proofs.Path.{Step, pinOf, tail, head, Sound, Spare, Apart, AllOf, Pairwise, LeadsBack, Ready, least}
+use Rattle.line.proofs.Search.{tree-apart}
 
 -- ---- the pins of a valid card name modules
 
@@ -47,34 +48,6 @@ pub record Twig (w : Ways) (c : Card) (xs : List ℤ) (rank opener : ℕ → ℕ
 
 abbrev pub Tree : Ways → Card → List ℤ → (ℕ → ℕ) → (ℕ → ℕ) → (ℕ → Step) → Side → Type 0
 Tree w c xs rank opener up x = (m : ℕ) → m < c .modules → T (x m) → c .mark m ≢ 1 → Twig w c xs rank opener x m (up m)
-
-pub tree-start : (w : Ways) (c : Card) (xs : List ℤ) (rank opener : ℕ → ℕ) (up : ℕ → Step) → Tree w c xs rank opener up (meters c)
-tree-start w c xs rank opener up m l t n = absurd (n (eqb→eq (c .mark m) 1 t))
-
--- one module more: v, by the step up′ v. Ranks, openers and steps stay what they were where they are used
-pub tree-add : (w : Ways) (c : Card) (xs : List ℤ) (rank opener : ℕ → ℕ) (up : ℕ → Step) (x : Side) (rank′ opener′ : ℕ → ℕ) (up′ : ℕ → Step) (v : ℕ) → Valid c →
-    Tree w c xs rank opener up x → Twig w c xs rank′ opener′ x v (up′ v) →
-    ((m : ℕ) → m < c .modules → T (x m) → rank′ m ≡ rank m) → ((m : ℕ) → m < c .modules → T (x m) → up′ m ≡ up m) →
-    ((m : ℕ) → m < c .modules → T (x m) → c .mark m ≢ 1 → T (not (up m .undoA)) → T (not (up m .undoB)) → opener′ (up m .net) ≡ opener (up m .net)) →
-    Tree w c xs rank′ opener′ up′ (either x (only v))
-tree-add w c xs rank opener up x rank′ opener′ up′ v valid tree g ranks ups openers m l i n = go (or-split (x m) (eqb m v) i)
-  where
-    wide : (t : Step) (k : ℕ) → Twig w c xs rank′ opener′ x k t → Twig w c xs rank′ opener′ (either x (only v)) k t
-    wide t k q = record { sound = q .sound; spare = q .spare; to = q .to; from = or-l (x (tail c t)) (eqb (tail c t) v) (q .from); lower = q .lower; opened = q .opened }
-
-    old : T (x m) → Twig w c xs rank opener x m (up m) → Twig w c xs rank′ opener′ x m (up m)
-    old a q = record {
-      sound = q .sound;
-      spare = q .spare;
-      to = q .to;
-      from = q .from;
-      lower = omega (arith, q .lower, ranks m l a, ranks (tail c (up m)) (pin-module c valid (up m .net) (up m .a) (q .sound .net) (q .sound .a)) (q .from));
-      opened = λ y z. q .opened y z ∙ sym (openers m l a n y z);
-    }
-
-    go : T (x m) ⊎ T (eqb m v) → Twig w c xs rank′ opener′ (either x (only v)) m (up′ m)
-    go (inl a) = rw (ups m l a) (wide (up m) m (old a (tree m l a n)))
-    go (inr a) = rw (eqb→eq m v a) (wide (up′ v) v g)
 
 -- ---- the walk up from m, in at most k steps
 
@@ -159,17 +132,3 @@ module _ (w : Ways) (c : Card) (valid : Valid c) (xs : List ℤ) (rank opener : 
 
     ready : Ready w c xs 1 path
     ready = walk-ready k u lu iu long
-
-    pub tree-more : 0 < most
-    tree-more = let r = walk-leads k u lu iu deep in augment-more w c xs top path f ready cap (r .0) u (inr (r .2)) (r .1) maker
-
-    pub tree-fair : FairBy w c (pushAll c xs most path)
-    tree-fair = let r = walk-leads k u lu iu deep in augment-fair w c xs top path f ready cap (r .0) u (inr (r .2)) (r .1) maker
-
-    pub tree-value : (v : ℕ) → value c xs ≡ pos v → value c (pushAll c xs most path) ≡ pos (v + most)
-    tree-value v e = let r = walk-leads k u lu iu deep in augment-now w c valid xs top path f ready cap (r .0) u (inr (r .2)) (r .1) maker v e
-
-    -- the rounds end: no value passes the price of the meters alone
-    pub tree-below : (v : ℕ) → value c xs ≡ pos v → v + most ≤ priceBy w (c .nets) (meters c)
-    tree-below v e =
-        let r = walk-leads k u lu iu deep in augment-below w c valid xs top path f ready cap (r .0) u (inr (r .2)) (r .1) maker v e (meters c) (meters-separate c)

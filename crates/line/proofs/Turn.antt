@@ -107,9 +107,6 @@ swap (inl h) = inr (inl h)
 swap (inr (inl h)) = inl h
 swap (inr (inr h)) = inr (inr h)
 
-pub passes-turn : (r q : ℕ → Bool) (n : Net) (ys : List ℤ) (a b d : ℕ) → total ys ≡ pos 0 → PassesBy r q n ys a b d → PassesBy q r n (negs ys) b a d
-passes-turn r q n ys a b d z p = record { leave = rw (taken-negs ys b) (p .enter); enter = rw (sent-negs ys a) (p .leave); room = rw (taken-negs ys b, sent-negs ys a, totalSent-negs ys z) (swap (p .room)) }
-
 pub turn-passes : (r q : ℕ → Bool) (n : Net) (ys : List ℤ) (a b d : ℕ) → total ys ≡ pos 0 → PassesBy q r n (negs ys) b a d → PassesBy r q n ys a b d
 turn-passes r q n ys a b d z p = record { leave = rw (sent-negs ys a) at (p .enter); enter = rw (taken-negs ys b) at (p .leave); room = swap (rw (taken-negs ys b, sent-negs ys a, totalSent-negs ys z) at (p .room)) }
 

@@ -11,11 +11,10 @@ use lib.IntN.{ℤ, pos}
 use lib.Signed.{_≤ℤ_}
 use lib.ListN.{length, take, drop, getD}
 use lib.Dec.{T, eqb, eqb→eq, leb→le}
-use Rattle.line.specs.Card.{Net, Card, Side, outside, allPins, Separates, Inside, remark}
+use Rattle.line.specs.Card.{Net, Card, Side, outside, allPins, Separates, Inside}
 use Rattle.line.specs.Flow.{sent, taken, totalSent, flowAt, EachNet, NetRule, meters, only, Fair, value}
 use Rattle.line.proofs.Ways.{Ways, later, meets, crossesBy, costBy, priceBy, CheapestBy, NearBy, FarBy, EachBy, NetRoles, FairBy, NetKeepsBy, ClosedBy}
-use Rattle.line.proofs.Sums.{is-pos, le-pos, sumAt, everywhere, flow-diff, total-diff, sum-sent, sumAt-append, sumAt-all, bit, sumAt-split, sumAt-out, level-modules, sumAt-zeros, zeros-sumAt, diff-same}
-use Rattle.line.proofs.Lattice.{Tightens}
+use Rattle.line.proofs.Sums.{is-pos, le-pos, sumAt, everywhere, flow-diff, total-diff, sum-sent, sumAt-append, sumAt-all, bit, sumAt-split, sumAt-out, level-modules, sumAt-zeros, zeros-sumAt}
 use Rattle.line.proofs.Bools.{or-r, in-of, clash}
 
 -- a card whose pins name modules and whose marks are three: every book that is read gives one
@@ -290,38 +289,3 @@ module _ (w : Ways) (c : Card) (valid : Valid c) (xs : List ℤ) (f : FairBy w c
   -- the largest closed side without a maker is the far side
   pub closed-far : ((t : Side) → ((m : ℕ) → m < c .modules → c .mark m ≡ 2 → T (not (t m))) → ClosedBy w c t xs → Inside c t s) → FarBy w c s
   closed-far h = record { cheapest = closed-cheapest; holds = λ t q. h t (q .separates .makers) (cheapest-closed t q) }
-
--- ---- the value of a fair flow stays what it was when marks tighten
-
-module _ (w : Ways) (c : Card) (valid : Valid c) (k : ℕ → ℕ) (g : Tightens c (c .mark) k) (xs : List ℤ) (f : FairBy w c xs) where
-  pub value-tightens : value (remark c k) xs ≡ value c xs
-  unfolding value
-  value-tightens =
-      diff-same (flowAt new ps′ xs) (flowAt (meters c) ps′ xs)
-      (omega (
-        arith,
-        flow-diff new ps′ xs,
-        flow-diff (meters c) ps′ xs,
-        free-level c valid xs (f .fair) new,
-        sumAt-split sent new (meters c) (freeOf c valid xs (f .fair) new) ps′ xs (λ m i. parts′ m (valid .pins m i)),
-        sumAt-split taken new (meters c) (freeOf c valid xs (f .fair) new) ps′ xs (λ m i. parts′ m (valid .pins m i)),
-      ))
-    where
-      ps′ : List ℕ
-      ps′ = allPins (c .nets)
-
-      new : Side
-      new = meters (remark c k)
-
-      parts′ : (m : ℕ) → m < c .modules → bit (eqb (k m) 1) ≡ bit (eqb (c .mark m) 1) + bit (eqb (k m) 1 && eqb (c .mark m) 0)
-      parts′ m l = go (c .mark m) (k m) (valid .marks m l) (g .meters m l) (g .makers m l)
-        where
-          last : (b : Bool) → bit b ≡ 0 + bit (b && true)
-          last true = refl
-          last false = refl
-
-          go : (i j : ℕ) → i ≤ 2 → (i ≡ 1 → j ≡ 1) → (i ≡ 2 → j ≡ 2) → bit (eqb j 1) ≡ bit (eqb i 1) + bit (eqb j 1 && eqb i 0)
-          go zero j t a b = last (eqb j 1)
-          go (suc zero) j t a b = rw (a refl)
-          go (suc (suc zero)) j t a b = rw (b refl)
-          go (suc (suc (suc i))) j t a b = absurd (omega arith)

@@ -158,7 +158,7 @@ pub fn area(book: &[u8], side: &[u8]) -> usize
 }
 
 // The module of pin j of net n.
-fn pin_of(book: &[u8], n: usize, first: usize, j: usize) -> usize
+pub fn pin_of(book: &[u8], n: usize, first: usize, j: usize) -> usize
     requires { ⌜ Sound (now book) × AtNet (now book) n first × (j < pinCount (now book) n) ⌝ }
     ensures { λ r. ⌜ (r ≡ pinOf (now (book .entry)) n j) × (r < modules (now (book .entry))) ⌝ }
 {
@@ -166,7 +166,7 @@ fn pin_of(book: &[u8], n: usize, first: usize, j: usize) -> usize
 }
 
 // Whether net n has a pin on the side and a pin off it.
-fn crosses(book: &[u8], side: &[u8], n: usize, first: usize) -> bool
+pub fn crosses(book: &[u8], side: &[u8], n: usize, first: usize) -> bool
     requires { ⌜ Lent (now book) (now side) × AtNet (now book) n first ⌝ }
     ensures { λ r. ⌜ r ≡ crosses (sideOf (now (side .entry))) (netOf (now (book .entry)) n) ⌝ }
 {

@@ -1,7 +1,7 @@
 -- The walk over books: prices never fall from row to row, there are at most f + 1 rounds, and each row is that of a near side for the modules then pinned, which
 -- is cheapest among all that separate them and lies inside every cheapest one. Assumes nothing.
-use mathlib.Core.Path.{_≡_, refl, ap}
-use mathlib.Core.List.{List, [], _∷_}
+use mathlib.Core.Path.{_≡_, refl}
+use mathlib.Core.List.{List}
 use Prim.Native.Nat.{ℕ, zero, suc, _+_, _≤_, _<_}
 use native.Mathlib.Omega.{arith}
 use native.Mathlib.Nat.{not-suc-le-zero, le-of-suc-le-suc}
@@ -12,7 +12,7 @@ use Rattle.book.specs.Cards.{cardOf}
 use Rattle.gate.specs.declared.Verdict.{Verdict}
 use Rattle.gate.specs.declared.Gate.{Gate}
 use Rattle.walk.specs.Walk.{Row, Outcome, found, noneLeft, freeTo, Walks, stop, go, end, answer}
-use Rattle.walk.specs.Call.{Left, Written, BookWalks}
+use Rattle.walk.specs.Call.{Left, Written}
 use Rattle.walk.proofs.Prices.{noRow, prices-rise}
 use Rattle.walk.proofs.Rounds.{walks-rounds}
 

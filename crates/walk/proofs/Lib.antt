@@ -4,7 +4,6 @@ pub mod One
 pub mod Prices
 pub mod Found
 pub mod Loop
-pub mod Choice
 pub mod Plain
 pub mod Call
 pub mod Books

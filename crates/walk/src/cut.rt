@@ -1,39 +1,7 @@
 // The modules with a pin on a net that X cuts.
-ghost use mathlib.Core.Path.{_≡_};
-ghost use Prim.Native.Nat.{_<_};
-ghost use Rattle.line.specs.Card.{crosses};
-ghost use Rattle.book.specs.Format.{modules, pinCount};
-ghost use Rattle.book.specs.Cards.{pinOf, netOf};
-ghost use Rattle.book.specs.Sound.{Sound};
 ghost use Rattle.side.specs.Sides.{sideOf};
 ghost use Rattle.side.specs.Given.{Lent, AtNet};
 ghost use Rattle.walk.specs.Parts.{Cleared, Adds, onNet, onCutNet, CutRow};
-
-// The module of pin j of net n.
-fn pin_of(book: &[u8], n: usize, first: usize, j: usize) -> usize
-    requires { ⌜ Sound (now book) × AtNet (now book) n first × (j < pinCount (now book) n) ⌝ }
-    ensures { λ r. ⌜ (r ≡ pinOf (now (book .entry)) n j) × (r < modules (now (book .entry))) ⌝ }
-{
-    book::pin(book, first + j)
-}
-
-// Whether X cuts net n.
-fn cuts(book: &[u8], x: &[u8], n: usize, first: usize) -> bool
-    requires { ⌜ Lent (now book) (now x) × AtNet (now book) n first ⌝ }
-    ensures { λ r. ⌜ r ≡ crosses (sideOf (now (x .entry))) (netOf (now (book .entry)) n) ⌝ }
-{
-    let many = book::pin_count(book, n);
-    let mut on = false;
-    let mut off = false;
-    let mut j = 0;
-    while j < many {
-        let b = side::inside(x, pin_of(book, n, first, j));
-        on = on | b;
-        off = off | !b;
-        j += 1;
-    }
-    on & off
-}
 
 // Takes every module off.
 fn clear(out: &mut [u8])
@@ -54,7 +22,7 @@ fn put_net(book: &[u8], n: usize, first: usize, out: &mut [u8])
     let many = book::pin_count(book, n);
     let mut j = 0;
     while j < many {
-        side::put(&mut *out, pin_of(book, n, first, j));
+        side::put(&mut *out, side::pin_of(book, n, first, j));
         j += 1;
     }
 }
@@ -64,7 +32,7 @@ fn put_cut(book: &[u8], x: &[u8], n: usize, first: usize, out: &mut [u8])
     requires { ⌜ Lent (now book) (now x) × Lent (now book) (now out) × AtNet (now book) n first ⌝ }
     ensures { λ _. ⌜ Adds (onCutNet (now (book .entry)) (sideOf (now (x .entry))) n) (now (out .entry)) (now (out .exit)) ⌝ }
 {
-    if cuts(book, x, n, first) {
+    if side::crosses(book, x, n, first) {
         put_net(book, n, first, &mut *out);
     }
 }
