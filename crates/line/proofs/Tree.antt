@@ -1,8 +1,6 @@
 -- A search tree that holds a maker gives a path that can be pushed: the walk up from the maker (`walk-ready`, `walk-leads`). Each module in the tree that is no meter has
 -- the step `up` by which it was reached, from a module of lower rank; the room of a net is used from one of its pins alone, its opener, so no two steps of a walk use it.
 -- Assumes nothing.
-use it.
--- Assumes nothing.
 use mathlib.Core.Path.{_≡_, refl, sym, ap, _∙_}
 use mathlib.Core.Logic.{_≢_}
 use mathlib.Core.Bool.{Bool, true, false, not, cond}
