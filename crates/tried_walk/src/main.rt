@@ -1,0 +1,13 @@
+// The desk's table on the gate and the walk: each case prints its name, the answer, the rows and the side; the file `stdout` has what they should be.
+mod gates;
+mod lent;
+mod make;
+mod refusals;
+mod rows;
+mod say;
+
+fn main() {
+    rows::run();
+    gates::run();
+    refusals::run();
+}
