@@ -7,4 +7,3 @@ pub mod Fairness
 pub mod Certificates
 pub mod Unread
 pub mod Answers
-pub mod Tried

@@ -5,4 +5,3 @@ pub mod Strides
 pub mod Laid
 pub mod Sound
 pub mod CardLaws
-pub mod Examples

@@ -11,7 +11,7 @@ use lib.Seq.{length-take-le, take-length, drop-drop, take-add}
 use Rattle.line.specs.Card.{Net, Card, allPins}
 use Rattle.line.proofs.Index.{netAt, start, start-mono, start-in}
 use Rattle.line.proofs.WayFlow.{Valid}
-use Rattle.flow.specs.Search.{Tables}
+use Rattle.flow.specs.Search.{Pin, Tables}
 use Rattle.flow.specs.Cards.{netsFrom, cardOf, Laid, Grid}
 use Rattle.flow.proofs.Pins.{split}
 
@@ -145,3 +145,13 @@ grid-one c ms nt g e i l k = go (ℕ-discrete n e)
         (λ h. absurd (omega (arith, start-mono (c .nets) n e h l, g .high p lp)))
         (λ h. absurd (omega (arith, start-mono (c .nets) e n (omega (arith, q)) (g .net p lp), g .low p lp)))
         (split n e)
+
+-- the net among whose pins a pin is, is the one that nt names
+pub run-net : (c : Card) (fs ms ws nt : List ℕ) → Made c fs ms ws → Grid c ms nt → (n p : ℕ) → n < length ws → Pin (getD fs n 0) (getD fs (n + 1) 0) p → getD nt p 0 ≡ n
+run-net c fs ms ws nt made grid n p l on =
+    let f = made .first n l in
+    let z = made .size n l in
+    let low = on .low in
+    let high = on .high in
+    let at : start (c .nets) n + (p - start (c .nets) n) ≡ p = omega arith in
+    subst (λ (j : ℕ). getD nt j 0 ≡ n) at (grid-one c ms nt grid n (p - start (c .nets) n) (omega (arith, l, made .nets)) (omega arith))

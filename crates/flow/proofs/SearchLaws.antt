@@ -196,7 +196,7 @@ pub record Read (a k b x : ℕ) : Type 0 where
   pub kind : kind x ≡ k
   pub entered : entered x ≡ b
 
-read : (a k b r x : ℕ) → a < 16384 → k ≤ 2 → b < 16384 → x ≡ r * 4294967296 + (a * 4 + k) * 65536 + b → Read a k b x
+pub read : (a k b r x : ℕ) → a < 16384 → k ≤ 2 → b < 16384 → x ≡ r * 4294967296 + (a * 4 + k) * 65536 + b → Read a k b x
 read a k b r x la lk lb e = record { left = omega arith; kind = omega arith; entered = omega arith }
 
 way-of : (bk : Bool) (fl : List ℤ) (sum weight k a b : ℕ) (takes all : Bool) → takes ≡ ltb 0 (gift (not bk) fl a) → Kind sum weight takes k → (k ≡ 2 → all ≡ false) →

@@ -1,7 +1,7 @@
 -- What the search found is a tree of the theory, and the set it reached is what the theory says a search reaches. In either direction. Assumes nothing.
 use mathlib.Core.Path.{_≡_, refl, sym, ap, _∙_, subst}
 use mathlib.Core.Bool.{Bool, not}
-use mathlib.Core.Logic.{_⊎_, inl, inr, ⊎-elim}
+use mathlib.Core.Logic.{_≢_, _⊎_, inl, inr, ⊎-elim}
 use mathlib.Core.List.{List}
 use Prim.Native.Nat.{ℕ, zero, suc, _+_, _-_, _≤_, _<_}
 use native.Mathlib.Nat.{not-suc-le-zero}
@@ -15,7 +15,7 @@ use Rattle.line.specs.Flow.{sent, taken, totalSent}
 use Rattle.line.proofs.Ways.{plainly}
 use Rattle.line.proofs.Index.{netAt, start, numbers, pin-at, start-in}
 use Rattle.line.proofs.WayFlow.{Valid}
-use Rattle.line.proofs.Path.{pinOf, tail, head, NetSpare, spare-passes}
+use Rattle.line.proofs.Path.{pinOf, tail, head, NetSpare, Spare, spare-passes}
 use Rattle.line.proofs.Tree.{Twig, Tree, pin-module}
 use Rattle.line.proofs.Turn.{Reached}
 use Rattle.line.proofs.Search.{Forth, Open, forth-closed, closed-forth}
@@ -145,7 +145,7 @@ module _ (bk : Bool) (fs ms ws : List ℕ) (fl : List ℤ) (sm nt mk : List ℕ)
     side-in : (m : ℕ) → T (sideOf (s .w) m) → In (s .w) m
     side-in m t = ltb→lt 0 (getD (s .w) m 0) t
 
-    twig : (m : ℕ) → In (s .w) m → Link bk fs ms ws fl sm nt s m → Twig plainly c xs (rankOf (s .w)) (openerOf c (s .sn)) (sideOf (s .w)) m (upOf c nt (s .w) m)
+    twig : (m : ℕ) → In (s .w) m → Link bk fs ms ws fl sm nt s m → Twig plainly c (rankOf (s .w)) (openerOf c (s .sn)) (sideOf (s .w)) m (upOf c nt (s .w) m)
     twig m i k =
         let x = getD (s .w) m 0 in
         let q = local (kind x) (left x) (entered x) (k .hop) in
@@ -159,7 +159,6 @@ module _ (bk : Bool) (fs ms ws : List ℕ) (fl : List ℤ) (sm nt mk : List ℕ)
             sends = λ _. tt;
             takes = λ _. tt;
           };
-          spare = spare (kind x) (left x) (entered x) (k .hop);
           to = to;
           from = subst (λ (n : ℕ). T (sideOf (s .w) n)) (sym from) (in-side (getD ms (left x) 0) (k .from));
           lower = subst (λ (n : ℕ). rank (getD (s .w) n 0) < rank x) (sym from) (k .lower);
@@ -169,8 +168,12 @@ module _ (bk : Bool) (fs ms ws : List ℕ) (fl : List ℤ) (sm nt mk : List ℕ)
         room-kind : kind (getD (s .w) m 0) ≤ 2 → T (not (eqb (kind (getD (s .w) m 0)) 1)) → T (not (eqb (kind (getD (s .w) m 0)) 2)) → kind (getD (s .w) m 0) ≡ 0
         room-kind l t u = let p = no-eqb (kind (getD (s .w) m 0)) 1 t in let q = no-eqb (kind (getD (s .w) m 0)) 2 u in omega arith
 
-    pub found-tree : Tree plainly c xs (rankOf (s .w)) (openerOf c (s .sn)) (upOf c nt (s .w)) (sideOf (s .w))
+    pub found-tree : Tree plainly c (rankOf (s .w)) (openerOf c (s .sn)) (upOf c nt (s .w)) (sideOf (s .w))
     found-tree m l t n = ⊎-elim (λ e. absurd (n (starts m e))) (twig m (side-in m t)) (found .link m (side-in m t))
+
+    -- one more can pass by the step to each module that was reached
+    pub found-spare : (m : ℕ) → T (sideOf (s .w) m) → c .mark m ≢ 1 → Spare c xs 1 (upOf c nt (s .w) m)
+    found-spare m t n = ⊎-elim (λ e. absurd (n (starts m e))) (λ k. spare (kind (getD (s .w) m 0)) (left (getD (s .w) m 0)) (entered (getD (s .w) m 0)) (k .hop)) (found .link m (side-in m t))
 
     pub found-reached : Reached plainly c xs (sideOf (s .w))
     found-reached = record {
@@ -197,5 +200,5 @@ module _ (bk : Bool) (fs ms ws : List ℕ) (fl : List ℤ) (sm nt mk : List ℕ)
             subst (λ (v : ℕ). T (t v)) (g .to)
             (f (u .net) (u .a) (u .b) (g .sound .net) (g .sound .a) (g .sound .b)
             (rec (tail c u) (pin-module c valid (u .net) (u .a) (g .sound .net) (g .sound .a)) (g .from) (omega (arith, g .lower)))
-            (spare-passes plainly c xs 1 u (g .sound) (g .spare))))
+            (spare-passes plainly c xs 1 u (g .sound) (spare (kind (getD (s .w) m 0)) (left (getD (s .w) m 0)) (entered (getD (s .w) m 0)) (k .hop)))))
             (found .link m (side-in m i))

@@ -1,7 +1,7 @@
 -- The rounds together: each search gives a tree, each round a higher value or the near side; and the far side from a search backwards. Assumes nothing.
-use mathlib.Core.Path.{_≡_, refl, sym, ap, ap₂, _∙_, subst}
+use mathlib.Core.Path.{_≡_, refl, sym, ap, ap₂, _∙_}
 use mathlib.Core.Bool.{Bool, true, false, not}
-use mathlib.Core.Logic.{⊎-elim}
+use mathlib.Core.Logic.{_≢_, ⊎-elim}
 use mathlib.Core.List.{List}
 use Prim.Native.Nat.{ℕ, zero, suc, _+_, _-_, _≤_, _<_}
 use native.Mathlib.Omega.{arith}
@@ -14,10 +14,10 @@ use Rattle.line.specs.Flow.{sent, taken, totalSent, NetRule, Fair, value, meter
 use Rattle.line.proofs.Ways.{plainly}
 use Rattle.line.proofs.WayFlow.{Valid}
 use Rattle.line.proofs.WayFlow
-use Rattle.line.proofs.Index.{netAt, start, start-in, numbers, each-at}
+use Rattle.line.proofs.Index.{netAt, start-in, numbers, each-at}
 use Rattle.line.proofs.Push.{more-sent, more-taken}
-use Rattle.line.proofs.Path.{Ready}
-use Rattle.line.proofs.Tree.{Tree, walk, walk-ready, walk-leads, meters-separate}
+use Rattle.line.proofs.Path.{Spare}
+use Rattle.line.proofs.Tree.{Tree, walk-sound, walk-every, walk-pairwise, walk-leads, meters-separate}
 use Rattle.line.proofs.Turn.{Reached, turn, turnMark, mark-1, negs, sent-negs, taken-negs, numbers-negs, totalSent-negs, valid-turn, reached-far, search-near}
 use Rattle.line.proofs.Cheap.{far-plain}
 use Rattle.line.proofs.Duality.{fair-plain, closed-plain, plain-closed, weak-duality, closed-price, price-closed}
@@ -25,8 +25,8 @@ use Rattle.flow.specs.Search.{In, left, entered, St, Link, Found, Tables
 use Rattle.flow.specs.Cards.{cardOf, Laid, Grid, sideOf, upOf}
 use Rattle.flow.specs.Push.{Trod}
 use Rattle.flow.specs.Raise.{Field, Route, Steady, OpenWay, Gained, Summed, Summable, partOf, Raised, Greatest}
-use Rattle.flow.proofs.CardLaws.{Made, card-made, card-valid, card-modules, card-mark, grid-of, grid-one}
-use Rattle.flow.proofs.TreeLaws.{rankOf, openerOf, Sees, found-tree, found-reached}
+use Rattle.flow.proofs.CardLaws.{Made, card-made, card-valid, card-modules, card-mark, grid-of, run-net}
+use Rattle.flow.proofs.TreeLaws.{rankOf, openerOf, Sees, found-tree, found-spare, found-reached}
 
 -- ---- one search
 
@@ -56,18 +56,13 @@ module _ (fs ms ws nt at pl mk : List ℕ) (laid : Laid fs ms ws mk) (tables : T
         let x = getD (t .w) m 0 in
         let n = getD nt (left x) 0 in
         let h = k .hop in
-        let f = made .first n (h .small) in
-        let z = made .size n (h .small) in
         let i = tables .inside n (h .small) in
         let a = h .leaves .high in
-        let b = h .enters .high in
-        let b′ = h .enters .low in record {
+        let b = h .enters .high in record {
           in-left = omega arith;
           in-entered = omega arith;
           net = omega (arith, h .small, made .nets);
-          same =
-              let at : start (cardOf fs ms ws mk .nets) n + (entered x - start (cardOf fs ms ws mk .nets) n) ≡ entered x = omega arith in
-              subst (λ (p : ℕ). getD nt p 0 ≡ n) at (grid-one (cardOf fs ms ws mk) ms nt grid n (entered x - start (cardOf fs ms ws mk .nets) n) (omega (arith, h .small, made .nets)) (omega arith));
+          same = run-net (cardOf fs ms ws mk) fs ms ws nt made grid n (entered x) (h .small) (h .enters);
           from = k .from;
           lower = k .lower;
         }
@@ -92,8 +87,12 @@ module _ (fs ms ws nt at pl mk : List ℕ) (laid : Laid fs ms ws mk) (tables : T
       weight = made .weight;
     }
 
-    tree : Tree plainly (cardOf fs ms ws mk) fl (rankOf (t .w)) (openerOf (cardOf fs ms ws mk) (t .sn)) (upOf (cardOf fs ms ws mk) nt (t .w)) (sideOf (t .w))
+    tree : Tree plainly (cardOf fs ms ws mk) (rankOf (t .w)) (openerOf (cardOf fs ms ws mk) (t .sn)) (upOf (cardOf fs ms ws mk) nt (t .w)) (sideOf (t .w))
     tree = found-tree false fs ms ws fl sm nt mk (cardOf fs ms ws mk) fl made grid valid (card-modules fs ms ws mk laid)
+        (λ m e. sym (card-mark fs ms ws mk laid m) ∙ e) (λ m e. card-mark fs ms ws mk laid m ∙ e) sees t found
+
+    spares : (m : ℕ) → T (sideOf (t .w) m) → cardOf fs ms ws mk .mark m ≢ 1 → Spare (cardOf fs ms ws mk) fl 1 (upOf (cardOf fs ms ws mk) nt (t .w) m)
+    spares = found-spare false fs ms ws fl sm nt mk (cardOf fs ms ws mk) fl made grid valid (card-modules fs ms ws mk laid)
         (λ m e. sym (card-mark fs ms ws mk laid m) ∙ e) (λ m e. card-mark fs ms ws mk laid m ∙ e) sees t found
 
     reached : Reached plainly (cardOf fs ms ws mk) fl (sideOf (t .w))
@@ -107,22 +106,18 @@ module _ (fs ms ws nt at pl mk : List ℕ) (laid : Laid fs ms ws mk) (tables : T
       in-side : T (sideOf (t .w) z)
       in-side = lt→ltb 0 (getD (t .w) z 0) i
 
-      ready : Ready plainly (cardOf fs ms ws mk) fl 1 (walk (cardOf fs ms ws mk) (upOf (cardOf fs ms ws mk) nt (t .w)) (suc (length mk)) z)
-      ready = walk-ready plainly (cardOf fs ms ws mk) valid fl (rankOf (t .w)) (openerOf (cardOf fs ms ws mk) (t .sn)) (upOf (cardOf fs ms ws mk) nt (t .w)) (sideOf (t .w)) tree (suc (length mk)) z low in-side
-          (omega (arith, ap length (made .pins), s .flows))
-
       pub route-of : Route (cardOf fs ms ws mk) nt mk (t .w) z
       route-of = record {
         from = i;
         maker = card-mark fs ms ws mk laid z ∙ e;
-        sound = ready .sound;
-        apart = ready .apart;
-        leads = walk-leads plainly (cardOf fs ms ws mk) valid fl (rankOf (t .w)) (openerOf (cardOf fs ms ws mk) (t .sn)) (upOf (cardOf fs ms ws mk) nt (t .w)) (sideOf (t .w)) tree (suc (length mk)) z low in-side
+        sound = walk-sound plainly (cardOf fs ms ws mk) valid (rankOf (t .w)) (openerOf (cardOf fs ms ws mk) (t .sn)) (upOf (cardOf fs ms ws mk) nt (t .w)) (sideOf (t .w)) tree (suc (length mk)) z low in-side;
+        apart = walk-pairwise plainly (cardOf fs ms ws mk) valid (rankOf (t .w)) (openerOf (cardOf fs ms ws mk) (t .sn)) (upOf (cardOf fs ms ws mk) nt (t .w)) (sideOf (t .w)) tree (suc (length mk)) z low in-side;
+        leads = walk-leads plainly (cardOf fs ms ws mk) valid (rankOf (t .w)) (openerOf (cardOf fs ms ws mk) (t .sn)) (upOf (cardOf fs ms ws mk) nt (t .w)) (sideOf (t .w)) tree (suc (length mk)) z low in-side
             (omega (arith, found .ranks z i .1));
       }
 
       pub open-of : OpenWay (cardOf fs ms ws mk) nt mk (t .w) fl z
-      open-of = ready .spare
+      open-of = walk-every plainly (cardOf fs ms ws mk) valid (rankOf (t .w)) (openerOf (cardOf fs ms ws mk) (t .sn)) (upOf (cardOf fs ms ws mk) nt (t .w)) (sideOf (t .w)) tree (Spare (cardOf fs ms ws mk) fl 1) (λ m l i n. spares m i n) (suc (length mk)) z low in-side
 
     no-maker : ((z : ℕ) → z < length mk → getD mk z 0 ≡ 2 → In (t .w) z → ⊥) → (m : ℕ) → m < cardOf fs ms ws mk .modules → cardOf fs ms ws mk .mark m ≡ 2 → T (not (sideOf (t .w) m))
     no-maker n m l e = go (sideOf (t .w) m) (λ h. n m (omega (arith, card-modules fs ms ws mk laid)) (sym (card-mark fs ms ws mk laid m) ∙ e) (ltb→lt 0 (getD (t .w) m 0) h))

@@ -33,7 +33,7 @@ fn net_sum(flow: &[i32], lo: usize, hi: usize) -> u32
 }
 
 // What the pins of each net send.
-fn net_sums(first: &[u16], flow: &[i32], sums: &mut [u32])
+pub fn net_sums(first: &[u16], flow: &[i32], sums: &mut [u32])
     requires { ⌜ Summable (now first) (now flow) (length (now sums)) ⌝ }
     ensures { λ _. ⌜ Summed (now (first .entry)) (now (flow .entry)) (length (now (sums .entry))) (now (sums .exit)) ⌝ }
 {

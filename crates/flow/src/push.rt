@@ -9,28 +9,28 @@ ghost use Rattle.flow.specs.Raise.{MayCarry, Carried, MayRound, Rounded}
 ghost use Rattle.flow.specs.Push.{roomAt, wayRoom, Trail, Level, MayPush, PushedWay, newSum, Pushable};
 
 // The pin left, from the number of a module.
-fn left_pin(x: u64) -> usize
+pub fn left_pin(x: u64) -> usize
     ensures { λ r. ⌜ r ≡ left x ⌝ }
 {
     (x / 262144 % 16384) as usize
 }
 
 // The kind of step.
-fn step_kind(x: u64) -> u64
+pub fn step_kind(x: u64) -> u64
     ensures { λ r. ⌜ r ≡ kind x ⌝ }
 {
     x / 65536 % 4
 }
 
 // The pin entered.
-fn entered_pin(x: u64) -> usize
+pub fn entered_pin(x: u64) -> usize
     ensures { λ r. ⌜ r ≡ entered x ⌝ }
 {
     (x % 65536) as usize
 }
 
 // How much the step that x tells can carry.
-fn step_room(weight: &[u16], nets: &[u16], sums: &[u32], flow: &[i32], x: u64) -> u32
+pub fn step_room(weight: &[u16], nets: &[u16], sums: &[u32], flow: &[i32], x: u64) -> u32
     requires { ⌜ (left x < length (now flow)) × (entered x < length (now flow)) × (length (now nets) ≡ length (now flow)) × (length (now flow) < 16384) × (getD (now nets) (left x) 0 < length (now weight)) × (length (now sums) ≡ length (now weight)) × (getD (now sums) (getD (now nets) (left x) 0) 0 ≤ getD (now weight) (getD (now nets) (left x) 0) 0) × (taken (getD (now flow) (left x) (pos 0)) ≤ 65535) ⌝ }
     ensures { λ r. ⌜ r ≡ roomAt (now (weight .entry)) (now (nets .entry)) (now (sums .entry)) (now (flow .entry)) x ⌝ }
 {
@@ -118,7 +118,7 @@ fn push_way(
 }
 
 // Pushes along the way from z back to a meter what it carries on the flow as it is now.
-fn push_from(
+pub fn push_from(
     mods: &[u16],
     weight: &[u16],
     nets: &[u16],

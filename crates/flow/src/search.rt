@@ -16,7 +16,7 @@ struct Scan {
 }
 
 // How a module was reached, in one number: its place in the queue and 1, the pin left and the kind of step, the pin entered.
-fn pack(rank: usize, from: u64, pin: usize) -> u64
+pub fn pack(rank: usize, from: u64, pin: usize) -> u64
     requires { ⌜ (rank < 65536) × (from ≤ 4294901760) × (pin < 65536) ⌝ }
     ensures { λ r. ⌜ r ≡ rank * 4294967296 + from + pin ⌝ }
 {
@@ -24,7 +24,7 @@ fn pack(rank: usize, from: u64, pin: usize) -> u64
 }
 
 // The pin left and the kind of step, as `pack` takes them.
-fn pack_from(a: u16, kind: u8) -> u64
+pub fn pack_from(a: u16, kind: u8) -> u64
     requires { ⌜ (a < 16384) × (kind ≤ 2) ⌝ }
     ensures { λ r. ⌜ r ≡ (a * 4 + kind) * 65536 ⌝ }
 {

@@ -1,76 +1,28 @@
--- The cards of document 01, worked: the prices, near sides and far sides of Bridge, Chain and Fan, Bridge's flow, and the path that makes it. Assumes nothing.
+-- A path through Bridge from the flow of zeros: its least room is 1, and pushing that makes document 01's flow, which is fair. Assumes nothing.
 use mathlib.Core.Path.{_≡_, refl}
-use mathlib.Core.Bool.{true, false}
+use mathlib.Core.Bool.{false}
 use mathlib.Core.Logic.{_≢_, inl}
 use mathlib.Core.List.{List, [], _∷_}
 use Prim.Native.Nat.{ℕ}
 use native.Mathlib.Omega.{arith}
-use lib.IntN.{ℤ, pos}
-use lib.ListN.{replicate}
+use lib.IntN.{ℤ, pos, negsuc}
+use lib.ListN.{getD, replicate}
 use lib.Dec.{lit≤, lit<}
-use Rattle.line.specs.Card.{Card, Side, touches, crosses, cost, price, allPins, Near, Far}
-use Rattle.line.specs.Flow.{Fair, totalSent, flowAt, value}
+use Rattle.line.specs.Card.{Card, allPins}
+use Rattle.line.specs.Flow.{totalSent}
 use Rattle.line.proofs.Ways.{plainly, FairBy}
 use Rattle.line.proofs.Index.{start}
 use Rattle.line.proofs.Push.{push}
 use Rattle.line.proofs.Path.{Step, Apart, AllOf, Pairwise, Leads, Ready, pushStep, pushAll, least, augment-fair}
 use Rattle.line.proofs.Search.{still-replicate, still-fair}
-use Rattle.line.proofs.EverySide.{near-tried, far-tried}
-use Rattle.line.proofs.Small.{side, bridge, chain, fan, rowFlow, row-fair}
 
--- the sides {0}, {0, 1} and {0, 1, 2}
-abbrev s0 : Side
-s0 = side (true ∷ [])
-
-abbrev s01 : Side
-s01 = side (true ∷ true ∷ [])
-
-abbrev s012 : Side
-s012 = side (true ∷ true ∷ true ∷ [])
-
--- the price, the near side and the far side of a card
-record Worked (c : Card) (p : ℕ) (n f : Side) : Type 0 where
-  costs : price (c .nets) n ≡ p
-  near : Near c n
-  far : Far c f
-
--- Bridge: near = far = {0, 1}, price 1
-bridge-worked : Worked bridge 1 s01 s01
-unfolding price cost crosses touches allPins
-bridge-worked = record {
-  costs = refl;
-  near = near-tried bridge s01 (record { pins = tt; separates = tt; least = tt; passes = tt });
-  far = far-tried bridge s01 (record { pins = tt; separates = tt; least = tt; passes = tt });
+-- four modules in a row, nets of weight 2, 1 and 2 between them
+abbrev bridge : Card
+bridge = record {
+  modules = 4;
+  mark = λ m. getD (1 ∷ 0 ∷ 0 ∷ 2 ∷ []) m 0;
+  nets = record { weight = 2; pins = 0 ∷ 1 ∷ [] } ∷ record { weight = 1; pins = 1 ∷ 2 ∷ [] } ∷ record { weight = 2; pins = 2 ∷ 3 ∷ [] } ∷ [];
 }
-
--- Chain: price 1, near {0}, far {0, 1, 2}
-chain-worked : Worked chain 1 s0 s012
-unfolding price cost crosses touches allPins
-chain-worked = record {
-  costs = refl;
-  near = near-tried chain s0 (record { pins = tt; separates = tt; least = tt; passes = tt });
-  far = far-tried chain s012 (record { pins = tt; separates = tt; least = tt; passes = tt });
-}
-
--- Fan: price 1, near {0}, far {0, 1}
-fan-worked : Worked fan 1 s0 s01
-unfolding price cost crosses touches allPins
-fan-worked = record {
-  costs = refl;
-  near = near-tried fan s0 (record { pins = tt; separates = tt; least = tt; passes = tt });
-  far = far-tried fan s01 (record { pins = tt; separates = tt; least = tt; passes = tt });
-}
-
--- ---- Bridge's flow 1, -1, 1, -1, 1, -1 is fair, of value 1
-
-bridge-fair : Fair bridge rowFlow
-bridge-fair = row-fair 2 1 2 (lit≤ tt) (lit≤ tt) (lit≤ tt)
-
-bridge-value : value bridge rowFlow ≡ pos 1
-unfolding value flowAt allPins
-bridge-value = refl
-
--- ---- a path through Bridge from the flow of zeros: its least room is 1, and pushing that makes the flow above
 
 abbrev through : ℕ → Step
 through e = record { net = e; a = 0; b = 1; undoA = false; undoB = false }
@@ -85,7 +37,7 @@ path-least : least bridge zeros 65535 path ≡ 1
 unfolding least start totalSent
 path-least = refl
 
-path-pushed : pushAll bridge zeros 1 path ≡ rowFlow
+path-pushed : pushAll bridge zeros 1 path ≡ pos 1 ∷ negsuc 0 ∷ pos 1 ∷ negsuc 0 ∷ pos 1 ∷ negsuc 0 ∷ []
 unfolding pushAll pushStep push start
 path-pushed = refl
 

@@ -78,7 +78,7 @@ pin-from P k x mark m h f = go (x m && eqb (mark m) 0) h
     go false q = q
 
 -- a free module v that is pinned by itself has the mark k
-pinned : (k v : ℕ) (mark : ℕ → ℕ) → mark v ≡ 0 → pin k (only v) mark v ≡ k
+pub pinned : (k v : ℕ) (mark : ℕ → ℕ) → mark v ≡ 0 → pin k (only v) mark v ≡ k
 unfolding pin
 pinned k v mark z = rw (z, T-true (eqb v v) (eqb-refl v))
 

@@ -18,6 +18,5 @@ pub mod Search
 pub mod Tree
 pub mod Below
 pub mod Area
-pub mod Small
-pub mod EverySide
+pub mod Trial
 pub mod Examples

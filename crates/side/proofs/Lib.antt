@@ -12,4 +12,3 @@ pub mod Prices
 pub mod Bytewise
 pub mod Moves
 pub mod Changes
-pub mod Tried

@@ -1,23 +1,26 @@
 -- A book with two splits: their answer and their sides are one, and their flows are two fair ones of one value. Assumes nothing.
 -- From meter 0 there are two ways on, by module 1 and by module 2, and both end in the one net to maker 3; each net has weight 1, so the price is 1.
 use mathlib.Core.Path.{_≡_, refl, ap, _∙_}
-use mathlib.Core.Bool.{Bool, true, _&&_}
+use mathlib.Core.Bool.{Bool, true, false, _&&_}
 use mathlib.Core.List.{List, [], _∷_}
 use Prim.Native.Nat.{ℕ, zero, suc, _<_}
 use native.Mathlib.Omega.{arith}
 use lib.IntN.{ℤ, pos, negsuc}
 use lib.ListN.{getD, replicate}
 use lib.Dec.{T, leb, leb→le, lit≤}
-use Rattle.line.specs.Card.{touches, crosses, cost, price, allPins, Near, Far}
+use Rattle.line.specs.Card.{Side, touches, crosses, cost, price, allPins, Near, Far, Alike, pin}
 use Rattle.line.specs.Flow.{Fair, EachNet, total, totalSent, sent, taken, flowAt, value, only}
 use Rattle.line.proofs.Bools.{and-l, and-r}
-use Rattle.line.proofs.EverySide.{near-tried, far-tried}
+use Rattle.line.proofs.Below.{near-alike, far-alike}
+use Rattle.line.proofs.Duality.{Valid}
+use Rattle.line.proofs.Trial.{nearBy, nearIn, farIn, near-tried, far-tried}
 use Rattle.book.specs.First.{first, lowest}
 use Rattle.book.specs.Listed.{listed}
 use Rattle.book.specs.Format.{modules, mark, u16, u32, field, entryIs, laid, firstPin}
 use Rattle.book.specs.Checks.{counted, badModule, badNet, badPin, check3, check4, check5, lacks, restOf, readOf}
 use Rattle.book.specs.Cards.{cardOf, netsOf}
 use Rattle.book.specs.declared.Reading.the-variants.{Good}
+use Rattle.book.proofs.CardLaws.{card-valid}
 use Rattle.book.proofs.Sound.{sound}
 use Rattle.side.specs.Sides.{sideOf}
 use Rattle.side.proofs.Spares.{test-tells}
@@ -62,13 +65,25 @@ row : Row (modules diamond) (0 ∷ []) (7 ∷ [])
 unfolding u32 u16
 row = record { long = refl; spare = test-tells (7 ∷ []) 4 tt; tail = refl }
 
+valid : Valid (cardOf diamond)
+valid = card-valid diamond (sound diamond _ diamond-reads)
+
+-- a side is {0, 1, 2}, told module by module
+alike : (x : Side) → x 0 ≡ true → x 1 ≡ true → x 2 ≡ true → x 3 ≡ false → Alike (modules diamond) x (sideOf (7 ∷ []))
+unfolding u32 u16
+alike x a b c d zero l = a
+alike x a b c d (suc zero) l = b
+alike x a b c d (suc (suc zero)) l = c
+alike x a b c d (suc (suc (suc zero))) l = d
+alike x a b c d (suc (suc (suc (suc m)))) l = absurd (omega arith)
+
 near : Near (cardOf diamond) (sideOf (7 ∷ []))
-unfolding price cost crosses touches allPins listed firstPin field u32 u16
-near = near-tried (cardOf diamond) (sideOf (7 ∷ [])) (record { pins = tt; separates = tt; least = tt; passes = tt })
+unfolding nearBy pin price cost crosses touches listed firstPin field u32 u16
+near = near-alike (cardOf diamond) valid (nearIn (cardOf diamond)) (sideOf (7 ∷ [])) (alike (nearIn (cardOf diamond)) refl refl refl refl) (near-tried (cardOf diamond) valid)
 
 far : Far (cardOf diamond) (sideOf (7 ∷ []))
-unfolding price cost crosses touches allPins listed firstPin field u32 u16
-far = far-tried (cardOf diamond) (sideOf (7 ∷ [])) (record { pins = tt; separates = tt; least = tt; passes = tt })
+unfolding nearBy pin price cost crosses touches listed firstPin field u32 u16
+far = far-alike (cardOf diamond) valid (farIn (cardOf diamond)) (sideOf (7 ∷ [])) (alike (farIn (cardOf diamond)) refl refl refl refl) (far-tried (cardOf diamond) valid)
 
 costs : 1 ≡ price (netsOf diamond) (sideOf (7 ∷ []))
 unfolding price cost crosses touches listed firstPin field u32 u16

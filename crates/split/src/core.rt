@@ -62,7 +62,47 @@ fn solve_in(
     crate::bits::write_side(&*how, false, &mut *far);
 }
 
-// The same in work of its own.
+// The flow raised by the climb, in work of its own: fair as before, and most often of the greatest value already, so that the engine's search has little left to do.
+pub fn lift(
+    first: &[u16],
+    mods: &[u16],
+    weight: &[u16],
+    nets: &[u16],
+    at: &[u16],
+    pins: &[u16],
+    mark: &[u8],
+    flow: &mut [i32],
+)
+    requires { ⌜ Slices (now first) (now mods) (now weight) (now mark) × Tables (now first) (now mods) (now weight) (now nets) (now at) (now pins) (length (now mark)) × Fair (cardOf (now first) (now mods) (now weight) (now mark)) (now flow) × (length (now flow) ≡ length (now mods)) ⌝ }
+    ensures { λ _. ⌜ Fair (cardOf (now (first .entry)) (now (mods .entry)) (now (weight .entry)) (now (mark .entry))) (now (flow .exit)) ⌝ }
+{
+    let m = mark.len();
+    let n = weight.len();
+    let mut queue: [u16; Book::MODULES] = [0; Book::MODULES];
+    let mut how: [u64; Book::MODULES] = [0; Book::MODULES];
+    let mut seen: [u16; Book::NETS] = [0; Book::NETS];
+    let mut dist: [u16; Book::MODULES] = [0; Book::MODULES];
+    let mut off: [u16; Book::MODULES] = [0; Book::MODULES];
+    let mut sums: [u32; Book::NETS] = [0; Book::NETS];
+    climb::climb::climb(
+        first,
+        mods,
+        weight,
+        nets,
+        at,
+        pins,
+        mark,
+        &mut queue[..m],
+        &mut how[..m],
+        &mut seen[..n],
+        &mut dist[..m],
+        &mut off[..m],
+        &mut sums[..n],
+        flow,
+    );
+}
+
+// The same in work of its own, the flow lifted first.
 fn solve_on(
     first: &[u16],
     mods: &[u16],
@@ -78,6 +118,7 @@ fn solve_on(
     requires { ⌜ Slices (now first) (now mods) (now weight) (now mark) × Tables (now first) (now mods) (now weight) (now nets) (now at) (now pins) (length (now mark)) × Begins (cardOf (now first) (now mods) (now weight) (now mark)) (now mods) (now near) (now far) (now flow) ⌝ }
     ensures { λ _. ⌜ Solved (cardOf (now (first .entry)) (now (mods .entry)) (now (weight .entry)) (now (mark .entry))) (now (near .entry)) (now (far .entry)) (now (near .exit)) (now (far .exit)) (now (flow .exit)) ⌝ }
 {
+    lift(first, mods, weight, nets, at, pins, mark, &mut *flow);
     let m = mark.len();
     let n = weight.len();
     let mut queue: [u16; Book::MODULES] = [0; Book::MODULES];

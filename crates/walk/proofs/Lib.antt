@@ -15,4 +15,3 @@ pub mod Runs
 pub mod Loads
 pub mod Ended
 pub mod Whole
-pub mod Desk

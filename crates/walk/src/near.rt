@@ -44,7 +44,7 @@ fn near_in(
     split::bits::write_side(&*how, true, &mut *x);
 }
 
-// The same in work of its own.
+// The same in work of its own, the flow lifted first.
 pub fn near(
     first: &[u16],
     mods: &[u16],
@@ -59,6 +59,7 @@ pub fn near(
     requires { ⌜ Ground (now first) (now mods) (now weight) (now nets) (now at) (now pins) (now mark) × Fair (cardOf (now first) (now mods) (now weight) (now mark)) (now flow) × (length (now flow) ≡ length (now mods)) × (bytesFor (length (now mark)) ≤ length (now x)) ⌝ }
     ensures { λ _. ⌜ NearRow (cardOf (now (first .entry)) (now (mods .entry)) (now (weight .entry)) (now (mark .entry))) (now (x .entry)) (now (x .exit)) ⌝ }
 {
+    split::core::lift(first, mods, weight, nets, at, pins, mark, &mut *flow);
     let m = mark.len();
     let n = weight.len();
     let mut queue: [u16; book::Book::MODULES] = [0; book::Book::MODULES];

@@ -1,0 +1,154 @@
+// The next step of a way: from a module to one that is nearer to the makers and not on the way yet.
+ghost use mathlib.Core.Path.{_≡_};
+ghost use mathlib.Core.Logic.{_≢_};
+ghost use mathlib.Core.Bool.{false};
+ghost use Prim.Native.Nat.{suc, _≤_, _<_};
+ghost use lib.ListN.{length, getD};
+ghost use Rattle.flow.specs.Search.{rank};
+ghost use Rattle.climb.specs.Climb.{Lay, Named, Entry, Onward};
+
+// How the pins lo .. hi of a net are looked at, from its pin a: the distance sought, whether a takes, whether the net has room that the way does not use, and the rank that the step would have.
+struct Look {
+    lo: usize,
+    hi: usize,
+    lower: u16,
+    takes: bool,
+    open: bool,
+    rank: usize,
+    a: u16,
+}
+
+// The kind of the step from a pin that takes or not to one that sends or not: by the net's room only if neither does.
+fn kind_to(takes: bool, sends: bool) -> u8
+    ensures { λ r. ⌜ (r ≤ 2) × (r ≡ 0 → (takes ≡ false) × (sends ≡ false)) ⌝ }
+{
+    if takes {
+        return 1;
+    }
+    if sends { 2 } else { 0 }
+}
+
+// The rank of a step after the one that x tells.
+fn rank_after(x: u64) -> usize
+    ensures { λ r. ⌜ r ≡ suc (rank x) ⌝ }
+{
+    (x / 4294967296) as usize + 1
+}
+
+// The first step into the pins lo .. hi, as one number; 0 if there is none.
+fn entry(mods: &[u16], mark: &[u8], flow: &[i32], how: &[u64], dist: &[u16], look: Look) -> u64
+    requires { ⌜ (look .hi ≤ length (now mods)) × (length (now mods) < 16384) × (length (now flow) ≡ length (now mods)) × Named (now mods) (length (now mark)) × (length (now how) ≡ length (now mark)) × (length (now dist) ≡ length (now mark)) × (look .rank < 65536) × (look .a < 16384) ⌝ }
+    ensures { λ x. ⌜ (x ≢ 0 → Entry (now (mods .entry)) (now (mark .entry)) (now (how .entry)) (look .lo) (look .hi) (look .open) (look .rank) (look .a) x) ⌝ }
+{
+    let hi = look.hi;
+    let lower = look.lower;
+    let takes = look.takes;
+    let open = look.open;
+    let mut i = look.lo;
+    while i < hi {
+        let m = flow::num::wide(mods[i]);
+        if dist[m] == lower {
+            let f = flow[i];
+            if (takes | open | (f > 0)) & (how[m] == 0) & (mark[m] != 1) {
+                let kind = kind_to(takes, f > 0);
+                let from = flow::search::pack_from(look.a, kind);
+                return flow::search::pack(look.rank, from, i);
+            }
+        }
+        i += 1;
+    }
+    0
+}
+
+// The first step that leaves by pin a, as one number; 0 if there is none.
+fn leave_by(
+    first: &[u16],
+    mods: &[u16],
+    weight: &[u16],
+    nets: &[u16],
+    at: &[u16],
+    pins: &[u16],
+    mark: &[u8],
+    sums: &[u32],
+    flow: &[i32],
+    how: &[u64],
+    seen: &[u16],
+    dist: &[u16],
+    u: usize,
+    a: u16,
+    lower: u16,
+    rank: usize,
+) -> u64
+    requires { ⌜ Lay (now first) (now mods) (now weight) (now nets) (now at) (now pins) (now mark) × (length (now sums) ≡ length (now weight)) × (length (now flow) ≡ length (now mods)) × (length (now how) ≡ length (now mark)) × (length (now seen) ≡ length (now weight)) × (length (now dist) ≡ length (now mark)) × (a < length (now mods)) × (getD (now mods) a 0 ≡ u) × (rank ≤ length (now mark)) × (0 < rank) ⌝ }
+    ensures { λ x. ⌜ (x ≢ 0 → Onward (now (mods .entry)) (now (nets .entry)) (now (mark .entry)) (now (how .entry)) (now (seen .entry)) u rank x) ⌝ }
+{
+    let p = flow::num::wide(a);
+    let n = flow::num::wide(nets[p]);
+    let room = sums[n] < flow::num::wide32(weight[n]);
+    let look = Look {
+        lo: flow::num::wide(first[n]),
+        hi: flow::num::wide(first[n + 1]),
+        lower: lower,
+        takes: flow[p] < 0,
+        open: room & (seen[n] == 0),
+        rank: rank,
+        a: a,
+    };
+    entry(mods, mark, flow, how, dist, look)
+}
+
+// The next step from u, from the pin on where the last look at u ended; 0 if there is none.
+pub fn onward(
+    first: &[u16],
+    mods: &[u16],
+    weight: &[u16],
+    nets: &[u16],
+    at: &[u16],
+    pins: &[u16],
+    mark: &[u8],
+    sums: &[u32],
+    flow: &[i32],
+    how: &[u64],
+    seen: &[u16],
+    dist: &[u16],
+    u: usize,
+    off: &mut [u16],
+) -> u64
+    requires { ⌜ Lay (now first) (now mods) (now weight) (now nets) (now at) (now pins) (now mark) × (length (now sums) ≡ length (now weight)) × (length (now flow) ≡ length (now mods)) × (length (now how) ≡ length (now mark)) × (length (now seen) ≡ length (now weight)) × (length (now dist) ≡ length (now mark)) × (length (now off) ≡ length (now mark)) × (u < length (now mark)) ⌝ }
+    ensures { λ x. ⌜ (x ≢ 0 → Onward (now (mods .entry)) (now (nets .entry)) (now (mark .entry)) (now (how .entry)) (now (seen .entry)) u (suc (rank (getD (now (how .entry)) u 0))) x) ⌝ }
+{
+    let d = dist[u];
+    let rank = rank_after(how[u]);
+    if (d == 0) | (rank > mark.len()) {
+        return 0;
+    }
+    let lo = flow::num::wide(at[u]);
+    let hi = flow::num::wide(at[u + 1]);
+    let mut i = lo + flow::num::wide(off[u]);
+    while i < hi {
+        let x = leave_by(
+            first,
+            mods,
+            weight,
+            nets,
+            at,
+            pins,
+            mark,
+            sums,
+            flow,
+            how,
+            seen,
+            dist,
+            u,
+            pins[i],
+            d - 1,
+            rank,
+        );
+        if x != 0 {
+            off[u] = flow::num::narrow(i - lo);
+            return x;
+        }
+        i += 1;
+    }
+    0
+}

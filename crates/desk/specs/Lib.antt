@@ -1,0 +1,2 @@
+-- What the contracts of `desk` cite.
+pub mod Answers

@@ -1,0 +1,56 @@
+-- `view::text::put_modules` meets its contract: the lines of the modules below `m` stand. Assumes nothing.
+use Prim.Native.Nat.{ℕ, _+_, _-_, _≤_}
+use mathlib.Core.Path.{_≡_, subst}
+use Rattle.side.specs.Sides.{sideOf}
+use Rattle.view.specs.Puts.{Put}
+use Rattle.view.specs.Text.{moduleLines}
+use Rattle.view.proofs.Lines.{lines-next, lines-long, lines-grow}
+use Rattle.view.proofs.Puts.{put-then, put-none, put-long}
+use borrow.Author.Needs.{needs}
+use native.Mathlib.Omega.{arith}
+use Rattle.view.proofs.text.put_modules.Statement.{statement}
+use Rattle.view.proofs.text.put_modules.Tie as tie
+
+abbrev Inv-loop : tie.InvT-loop
+Inv-loop out₀ at side count next₀ m₀ out next m =
+    (m ≤ count) × Put (moduleLines (sideOf side) m) at out₀ next out
+
+abbrev μ-loop : tie.MeasureT-loop
+μ-loop out₀ at side count next₀ m₀ out next m =
+    count - m
+
+loop-holds : tie.Need-loop-holds Inv-loop μ-loop
+unfolding moduleLines
+loop-holds c = (omega arith, put-none (c .before .before .args .at) (c .before .before .args .out .now))
+
+put-module-requires : tie.Need-put-module-requires Inv-loop μ-loop
+put-module-requires c κs = (omega (arith, c .before .before .before .before .before .pre .0), omega (arith, c .before .before .before .before .before .pre .1, c .before .before .loop .inv .1 .after, lines-long (sideOf (c .before .before .before .before .before .args .side .now)) (c .before .before .loop .m), lines-grow (sideOf (c .before .before .before .before .before .args .side .now)) (c .before .before .loop .m + 1) (c .before .before .before .before .before .args .count) (omega arith), put-long (omega (arith, c .before .before .before .before .before .pre .1, lines-long (sideOf (c .before .before .before .before .before .args .side .now)) (c .before .before .loop .m), lines-grow (sideOf (c .before .before .before .before .before .args .side .now)) (c .before .before .loop .m + 1) (c .before .before .before .before .before .args .count) (omega arith))) (c .before .before .loop .inv .1)))
+
+add-m : tie.Need-add-m Inv-loop μ-loop
+add-m c = search needs
+
+loop-less : tie.Need-loop-less Inv-loop μ-loop
+loop-less c = search needs
+
+loop-again : tie.Need-loop-again Inv-loop μ-loop
+loop-again c = (omega arith, rw (lines-next (sideOf (c .before .before .before .before .before .before .before .before .args .side .now)) (c .before .before .before .before .before .loop .m)) (put-then (omega (arith, c .before .before .before .before .before .before .before .before .pre .1, c .before .before .before .before .before .loop .inv .1 .after, lines-long (sideOf (c .before .before .before .before .before .before .before .before .args .side .now)) (c .before .before .before .before .before .loop .m), lines-grow (sideOf (c .before .before .before .before .before .before .before .before .args .side .now)) (c .before .before .before .before .before .loop .m + 1) (c .before .before .before .before .before .before .before .before .args .count) (omega arith))) (c .before .before .before .before .before .loop .inv .1) (c .before .before .put-module .ensures)))
+
+same-length : tie.Need-same-length Inv-loop μ-loop
+same-length c = put-long (omega (arith, c .before .before .before .before .pre .1, lines-grow (sideOf (c .before .before .before .before .args .side .now)) (c .before .loop .m) (c .before .before .before .before .args .count) (c .before .loop .inv .0))) (c .before .loop .inv .1)
+
+returns : tie.Need-returns Inv-loop μ-loop
+returns c = (let e : c .before .loop .m ≡ c .before .before .before .before .args .count = omega (arith, c .before .loop .inv .0) in subst (λ (k : ℕ). Put (moduleLines (sideOf (c .before .before .before .before .args .side .now)) k) (c .before .before .before .before .args .at) (c .before .before .before .before .args .out .now) (c .before .loop .next) (c .before .loop .out)) e (c .before .loop .inv .1))
+
+pub put-modules-spec : {M : Type 1} → statement M
+put-modules-spec =
+    tie.close
+    (tie.spec
+    Inv-loop
+    μ-loop
+    loop-holds
+    put-module-requires
+    add-m
+    loop-less
+    loop-again
+    same-length
+    returns)

@@ -1,0 +1,4 @@
+-- What the contracts of `view` cite.
+pub mod Text
+pub mod Listing
+pub mod Puts
