@@ -44,7 +44,7 @@ fn main() {
     for path in books(&folder.join("split")) {
         let book = fs::read(&path).expect("a book");
         let time = median(|| {
-            plain::split::split(&book, &mut near, &mut far, &mut flow).expect("a good book");
+            plain::split(&book, &mut near, &mut far, &mut flow).expect("a good book");
         });
         say("split", &path, time);
     }
@@ -52,7 +52,7 @@ fn main() {
     for path in books(&folder.join("walk")) {
         let (book, gate) = (fs::read(&path).expect("a book"), gate(&path));
         let time = median(|| {
-            plain::walk::walk(&book, gate, &mut side, &mut rows).expect("a good book");
+            plain::walk(&book, gate, &mut side, &mut rows).expect("a good book");
         });
         say("walk", &path, time);
     }
