@@ -1,5 +1,5 @@
--- A number in decimal: the digits of a tenth of it, then its last digit (`decimal-more`). One below the j-th power of ten has at most j digits (`decimal-most`). Assumes nothing.
-use Prim.Native.Nat.{ℕ, zero, suc, _+_, _/_, _%_, _^_, _≤_, _<_}
+-- A number in decimal: the digits of a tenth of it, then its last digit (`decimal-more`). It reads back as that number (`decimal-reads`), and below the j-th power of ten it has at most j digits (`decimal-most`). Assumes nothing.
+use Prim.Native.Nat.{ℕ, zero, suc, _+_, _-_, _*_, _/_, _%_, _^_, _≤_, _<_}
 use mathlib.Core.Path.{_≡_, refl, sym, ap, _∙_}
 use mathlib.Core.Bool.{Bool, true, false}
 use mathlib.Core.List.{List, [], _∷_, _++_}
@@ -53,3 +53,27 @@ digits-most (suc k) j n l = go (ltb n 10) refl j l (λ i. digits-most k i (n / 1
 
 pub decimal-most : (j n : ℕ) → n < 10 ^ suc j → length (decimal n) ≤ suc j
 decimal-most j n l = digits-most (suc n) j n l
+
+-- ---- read back
+
+-- what digits are worth, read after those that are worth v
+abbrev pub worth : ℕ → List ℕ → ℕ
+worth v [] = v
+worth v (d ∷ ds) = worth (10 * v + (d - digit 0)) ds
+
+worth-more : (v : ℕ) (ds es : List ℕ) → worth v (ds ++ es) ≡ worth (worth v ds) es
+worth-more v [] es = refl
+worth-more v (d ∷ ds) es = worth-more (10 * v + (d - digit 0)) ds es
+
+digits-read : (k n : ℕ) → n < k → worth 0 (digits k n) ≡ n
+digits-read zero n l = absurd (not-suc-le-zero l)
+digits-read (suc k) n l = go (ltb n 10) refl (digits-read k (n / 10))
+  where
+    go : (t : Bool) → ltb n 10 ≡ t → (n / 10 < k → worth 0 (digits k (n / 10)) ≡ n / 10) → worth 0 (digits (suc k) n) ≡ n
+    go true e f = ap (worth 0) (digits-one k n (ltb-true n 10 e)) ∙ omega arith
+    go false e f =
+        let m = ltb-false n 10 e in
+        ap (worth 0) (digits-more k n m) ∙ worth-more 0 (digits k (n / 10)) (digit (n % 10) ∷ []) ∙ omega (arith, f (omega (arith, m)))
+
+pub decimal-reads : (n : ℕ) → worth 0 (decimal n) ≡ n
+decimal-reads n = digits-read (suc n) n (omega arith)

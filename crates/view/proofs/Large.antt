@@ -1,21 +1,25 @@
--- The largest book: over its last byte there is a step exactly where more bytes came in (`seen-prints`), and no book that reads is larger (`reads-small`). Assumes nothing.
-use Prim.Native.Nat.{ℕ, _+_, _-_, _≤_}
+-- The largest book: over its last byte there is a step exactly where more bytes came in (`seen-prints`), and no book that reads is larger (`reads-small`). So what came in is refused for its size, is refused by the reader, or is a book with a split (`over-prints`, `refused-prints`, `read-prints`).
+-- Assumes nothing.
+use Prim.Native.Nat.{ℕ, _+_, _-_, _≤_, _<_}
 use mathlib.Core.Path.{_≡_, refl}
 use mathlib.Core.Bool.{Bool, true, false}
 use mathlib.Core.List.{List}
 use native.Mathlib.Omega.{arith}
-use borrow.Author.Tests.{leb-true, leb-false, ltb-true, ltb-false}
+use borrow.Author.Tests.{leb-true, leb-false, ltb-true, ltb-false, lt-ltb, le-ltb}
 use lib.Dec.{leb, ltb}
 use lib.ListN.{length}
 use Rattle.book.specs.Format.{u16, laid}
 use Rattle.book.specs.Checks.{readOf}
 use Rattle.book.specs.Steps.{stepIf, stepBy}
 use Rattle.book.specs.declared.Book.{Book}
-use Rattle.book.specs.declared.Reading.the-variants.{Good}
+use Rattle.book.specs.declared.Reading.the-variants.{Good, Refused}
+use Rattle.book.specs.declared.Refusal.{Refusal}
+use Rattle.book.specs.declared.Refusal.the-variants.{Counts}
 use Rattle.book.proofs.Laid.{contents}
 use Rattle.book.proofs.Sound.{sound}
 use Rattle.view.specs.declared.Listed.{Listed}
-use Rattle.view.specs.Listing.{largestBook, room, Seen, Prints, PrintsIf, WritesIf, Writes}
+use Rattle.view.specs.Text.{refusedText}
+use Rattle.view.specs.Listing.{largestBook, room, Splits, Lists, Seen, Prints, PrintsIf, WritesIf, Writes}
 
 -- one text for another
 writes-by : {P Q : List ℕ → Type 0} (old : List ℕ) (r : Listed) (new : List ℕ) → ((t : List ℕ) → P t → Q t) → Writes P old r new → Writes Q old r new
@@ -51,3 +55,18 @@ reads-small s b e =
     let l = h .laid-out in
     omega
     (arith, contents s (reads-laid s b e) .end, h .few-modules, h .few-nets, h .few-pins, l .modules-whole, l .nets-whole, l .pins-whole)
+
+-- ---- what is printed, case by case
+
+module _ (s text : List ℕ) where
+  pub over-prints : largestBook < length s → Prints s text → text ≡ refusedText Counts
+  over-prints l p = rw (lt-ltb largestBook (length s) l) at p
+
+  small : length s ≤ largestBook → Prints s text → Lists s text
+  small l p = rw (le-ltb largestBook (length s) l) at p
+
+  pub refused-prints : (why : Refusal) → length s ≤ largestBook → readOf s ≡ Refused why → Prints s text → text ≡ refusedText why
+  refused-prints why l e p = rw e at (small l p)
+
+  pub read-prints : (b : Book) → readOf s ≡ Good b → Prints s text → Splits s text
+  read-prints b e p = rw e at (small (reads-small s b e) p)

@@ -12,10 +12,10 @@ use Rattle.view.specs.Text.{bytes, decimal, moduleLine, moduleLines, pai
 use Rattle.view.proofs.Decimals.{decimal-most}
 use Rattle.view.proofs.Lines.{pair-long, line-off, line-long}
 
-pub decimal-room : (n : ℕ) → n < 2 ^ 64 → length (decimal n) ≤ 20
+decimal-room : (n : ℕ) → n < 2 ^ 64 → length (decimal n) ≤ 20
 decimal-room n l = decimal-most 19 n (lt-of-lt-of-le l (lit≤ tt))
 
-pub pair-room : (first : List ℕ) (n : ℕ) (second : List ℕ) (k : ℕ) → n < 2 ^ 64 → k < 2 ^ 64 → length (pairLine first n second k) ≤ length first + 20 + length second + 20 + 1
+pair-room : (first : List ℕ) (n : ℕ) (second : List ℕ) (k : ℕ) → n < 2 ^ 64 → k < 2 ^ 64 → length (pairLine first n second k) ≤ length first + 20 + length second + 20 + 1
 pair-room first n second k a b =
     omega
     (arith, pair-long first n second k, length-append first (decimal n), length-append second (decimal k), decimal-room n a, decimal-room k b)

@@ -26,7 +26,7 @@ unfoldable pub digits : ℕ → ℕ → List ℕ
 digits zero n = []
 digits (suc k) n = cond (ltb n 10) [] (digits k (n / 10)) ++ (digit (n % 10) ∷ [])
 
--- A number in decimal, with no zero in front; 0 is "0". No number has more digits than itself and one more.
+-- A number in decimal, with no zero in front; 0 is "0". A number n has at most n + 1 digits.
 abbrev pub decimal : ℕ → List ℕ
 decimal n = digits (suc n) n
 

@@ -3,10 +3,8 @@ ghost use mathlib.Core.Path.{_≡_};
 ghost use mathlib.Core.List.{_++_, _∷_, []};
 ghost use Prim.Native.Nat.{_+_, _/_, _<_, _≤_};
 ghost use lib.ListN.{length};
-ghost use Rattle.book.specs.Format.{modules};
-ghost use Rattle.side.specs.Given.{Lent};
-ghost use Rattle.side.specs.Sides.{sideOf, bytesFor, SpareClear};
-ghost use Rattle.view.specs.Text.{decimal, moduleLine, moduleLines, pairLine, sideText, splitText, refusedText};
+ghost use Rattle.side.specs.Sides.{sideOf, bytesFor};
+ghost use Rattle.view.specs.Text.{decimal, moduleLine, moduleLines, pairLine};
 ghost use Rattle.view.specs.Puts.{Put};
 
 // A byte.

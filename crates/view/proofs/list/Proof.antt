@@ -230,6 +230,7 @@ module _ {M : Type 1} (𝓤 : URA M) (H : Heap 𝓤) (A : Atoms 𝓤) (W : Given
         -- `moved`, with one copy of what the view owns: the other is kept for `View::list`
         use1 W (‵ (B .own h₀ (u₀ ∷ [])) ⊛ ‵ (B .own h₀ (u₀ ∷ []))) (LL.copy (T.the-type α) (T′.the-copy α) 𝓤 H A W .twice h₀ (u₀ ∷ [])) $ split ! $ move ! (0 ∷ 2 ∷ []) $
         use2 W (raw (Moved 𝓤 H A mem run .pre (to-moved u₀))) (goes-moved u₀) $
+        -- MIR writes a constant above 1023 as `intBig`, whose bound is a proof: the step for it stands here
         calls-at ! fm (Moved 𝓤 H A mem run) known-moved (to-moved u₀) (and-then ! (load ! (from ! (stop !)) (look ! 9 refl)) (and-then ! (record { go = λ Kt h. via 𝓤 (Kt (vint w64 last)) h (guardI 𝓤 (Fits w64 last) (Kt (vint w64 last)) (record { fits = lit< tt })) }) (no-more !))) (λ u₁.
         use1 W (later (some (λ (r : View). ((‵ (flft κ q) ⊛ ‵ ftrue) ⊛ ‵ (B .own r (u₁ ∷ []))) ⊛ raw (ensured 𝓤 H A moved.ended (moved.clauses 𝓤 H A mem run) (κ, tt) (h₀, (last, tt)) tt r)))) (id⊢ 𝓤 _) $ await ! tt $ pick ! (λ r₁.
         split ! $ move ! (1 ∷ []) $ use1 W (raw (fact 𝓤 ((r₁ .book ≡ s) × (r₁ .at ≡ last)))) (moved-of 𝓤 H A mem run κ h₀ last r₁) $ heard ! ((r₁ .book ≡ s) × (r₁ .at ≡ last)) (λ e₁.

@@ -27,13 +27,17 @@ same-length : tie.Need-same-length
 same-length c = search needs
 
 returns-2 : tie.Need-returns-2
-returns-2 c = rw (le-ltb (length (c .before .before .before .before .before .before .before .before .before .args .out .now)) room (c .before .before .before .before .before .before .if1 .left), c .before .before .before .before .enum-told .given .1) (put-front refl (c .before .before .put-refusal .ensures))
+returns-2 c =
+    let b = c .before .before .before .before .before .before .before .before .before in
+    rw (le-ltb (length (b .args .out .now)) room (c .before .before .before .before .before .before .if1 .left), c .before .before .before .before .enum-told .given .1) (put-front refl (c .before .before .put-refusal .ensures))
 
 same-length-2 : tie.Need-same-length-2
 same-length-2 c = search needs
 
 returns-3 : tie.Need-returns-3
-returns-3 c = rw (le-ltb (length (c .before .before .before .before .before .before .before .before .before .args .out .now)) room (c .before .before .before .before .before .before .if1 .left), c .before .before .before .before .enum-told2 .given .1) (put-front (c .before .before .list-from .ensures .lists) (c .before .before .list-from .ensures .put))
+returns-3 c =
+    let b = c .before .before .before .before .before .before .before .before .before in
+    rw (le-ltb (length (b .args .out .now)) room (c .before .before .before .before .before .before .if1 .left), c .before .before .before .before .enum-told2 .given .1) (put-front (c .before .before .list-from .ensures .lists) (c .before .before .list-from .ensures .put))
 
 pub list-at-spec : {M : Type 1} → statement M
 list-at-spec =

@@ -35,13 +35,18 @@ same-length : tie.Need-same-length
 same-length c = search needs
 
 returns : tie.Need-returns
-returns c = listing-as (take-all (length (c .before .before .before .before .before .before .before .before .args .book .now) - c .before .before .before .before .before .before .before .before .args .at) (drop (c .before .before .before .before .before .before .before .before .args .at) (c .before .before .before .before .before .before .before .before .args .book .now)) (omega (arith, length-drop (c .before .before .before .before .before .before .before .before .args .at) (c .before .before .before .before .before .before .before .before .args .book .now)))) (c .before .before .list-book .ensures)
+returns c =
+    let b = c .before .before .before .before .before .before .before .before in
+    let a = b .args in
+    listing-as (take-all (length (a .book .now) - a .at) (drop (a .at) (a .book .now)) (omega (arith, length-drop (a .at) (a .book .now)))) (c .before .before .list-book .ensures)
 
 same-length-2 : tie.Need-same-length-2
 same-length-2 c = search needs
 
 returns-2 : tie.Need-returns-2
-returns-2 c = listing-as (sym (drop-of-length-le (c .before .before .before .before .before .before .before .before .args .book .now) (c .before .before .before .before .before .if1 .left))) (c .before .before .list-book2 .ensures)
+returns-2 c =
+    let b = c .before .before .before .before .before .before .before .before in
+    listing-as (sym (drop-of-length-le (b .args .book .now) (c .before .before .before .before .before .if1 .left))) (c .before .before .list-book2 .ensures)
 
 pub list-from-spec : {M : Type 1} → statement M
 list-from-spec =

@@ -11,7 +11,9 @@ enum-known-p : tie.Need-enum-known-p
 enum-known-p c = search needs
 
 put-split-requires : tie.Need-put-split-requires
-put-split-requires c κs = (rows-split (c .before .before .before .before .before .before .before .before .before .before .before .before .before .before .before .before .before .before .before .args .book .now) _ _ _ (c .before .before .before .before .before .before .before .before .before .before .before .split .ensures) _ (c .before .before .before .before .p .given .1), c .before .before .before .before .before .before .before .before .before .before .before .before .before .before .before .before .before .before .before .pre .1)
+put-split-requires c κs =
+    let b = c .before .before .before .before .before .before .before .before .before .before .before .before .before .before .before .before .before .before .before in
+    (rows-split (b .args .book .now) _ _ _ (c .before .before .before .before .before .before .before .before .before .before .before .split .ensures) _ (c .before .before .before .before .p .given .1), b .pre .1)
 
 enum-known-why : tie.Need-enum-known-why
 enum-known-why c = search needs
@@ -32,7 +34,9 @@ same-length-4 : tie.Need-same-length-4
 same-length-4 c = search needs
 
 returns : tie.Need-returns
-returns c = record { text = _; lists = listed-price (c .before .before .before .before .before .before .before .before .before .before .before .before .before .before .before .before .before .before .before .before .before .before .args .book .now) _ _ _ (c .before .before .before .before .before .before .before .before .before .before .before .before .before .before .split .ensures) _ (c .before .before .before .before .before .before .before .p .given .1); put = c .before .before .put-split .ensures }
+returns c =
+    let b = c .before .before .before .before .before .before .before .before .before .before .before .before .before .before .before .before .before .before .before .before .before .before in
+    record { text = _; lists = listed-price (b .args .book .now) _ _ _ (c .before .before .before .before .before .before .before .before .before .before .before .before .before .before .split .ensures) _ (c .before .before .before .before .before .before .before .p .given .1); put = c .before .before .put-split .ensures }
 
 same-length-5 : tie.Need-same-length-5
 same-length-5 c = search needs
@@ -47,7 +51,9 @@ same-length-8 : tie.Need-same-length-8
 same-length-8 c = search needs
 
 returns-2 : tie.Need-returns-2
-returns-2 c = record { text = _; lists = listed-refused (c .before .before .before .before .before .before .before .before .before .before .before .before .before .before .before .before .before .before .before .before .args .book .now) _ _ _ (c .before .before .before .before .before .before .before .before .before .before .before .before .split .ensures) _ (c .before .before .before .before .before .why .given .1) (c .before .before .before .before .before .before .before .before .before .before .before .before .before .before .before .before .before .before .before .before .pre .0); put = c .before .before .put-refusal .ensures }
+returns-2 c =
+    let b = c .before .before .before .before .before .before .before .before .before .before .before .before .before .before .before .before .before .before .before .before in
+    record { text = _; lists = listed-refused (b .args .book .now) _ _ _ (c .before .before .before .before .before .before .before .before .before .before .before .before .split .ensures) _ (c .before .before .before .before .before .why .given .1) (b .pre .0); put = c .before .before .put-refusal .ensures }
 
 pub list-in-spec : {M : Type 1} → statement M
 list-in-spec =

@@ -22,14 +22,22 @@ slice-aggregate-put-pair-2 c = search needs
 
 put-pair-requires : tie.Need-put-pair-requires
 unfolding bytes
-put-pair-requires c κs = omega (arith, c .before .before .before .before .before .before .pre, refusal-room (c .before .before .before .before .number .result) (c .before .before .before .place .result) (c .before .before .before .before .number .ok) (c .before .before .before .place .ok))
+put-pair-requires c κs =
+    let b = c .before .before .before .before .before .before in
+    let n = c .before .before .before .before .number in
+    let p = c .before .before .before .place in
+    omega (arith, b .pre, refusal-room (n .result) (p .result) (n .ok) (p .ok))
 
 same-length : tie.Need-same-length
 same-length c = search needs
 
 returns : tie.Need-returns
 unfolding bytes
-returns c = put-as (refused-text (c .before .before .before .before .before .before .before .before .before .args .why) (c .before .before .before .before .before .before .before .number .result) (c .before .before .before .before .before .before .place .result) (c .before .before .before .before .before .before .before .number .ensures) (c .before .before .before .before .before .before .place .ensures)) (c .before .before .put-pair .ensures)
+returns c =
+    let b = c .before .before .before .before .before .before .before .before .before in
+    let n = c .before .before .before .before .before .before .before .number in
+    let p = c .before .before .before .before .before .before .place in
+    put-as (refused-text (b .args .why) (n .result) (p .result) (n .ensures) (p .ensures)) (c .before .before .put-pair .ensures)
 
 pub put-refusal-spec : {M : Type 1} → statement M
 put-refusal-spec =

@@ -20,21 +20,51 @@ slice-aggregate-put-pair c = search needs
 
 put-pair-requires : tie.Need-put-pair-requires
 unfolding bytes
-put-pair-requires c κs = omega (arith, c .before .before .before .before .before .before .before .before .pre .3, header-room (c .before .before .before .before .before .before .before .before .args .name .now) (c .before .before .before .count .result) (c .before .before .area .result) (c .before .before .before .before .before .before .before .before .pre .2) (c .before .before .before .count .ok) (c .before .before .area .ok))
+put-pair-requires c κs =
+    let b = c .before .before .before .before .before .before .before .before in
+    let p = b .pre in
+    let n = c .before .before .before .count in
+    let k = c .before .before .area in
+    omega (arith, p .3, header-room (b .args .name .now) (n .result) (k .result) (p .2) (n .ok) (k .ok))
 
 modules-requires : tie.Need-modules-requires
 modules-requires c κs = (c .before .before .before .before .before .before .before .before .before .before .before .before .pre .0) .sound .laid-out
 
 put-modules-requires : tie.Need-put-modules-requires
 unfolding bytes
-put-modules-requires c κs = (omega (arith, c .modules .ensures, (c .before .before .before .before .before .before .before .before .before .before .before .before .before .pre .0) .enough), omega (arith, c .before .before .before .before .before .before .before .before .before .before .before .before .before .pre .3, header-room (c .before .before .before .before .before .before .before .before .before .before .before .before .before .args .name .now) (c .before .before .before .before .before .before .before .before .count .result) (c .before .before .before .before .before .before .before .area .result) (c .before .before .before .before .before .before .before .before .before .before .before .before .before .pre .2) (c .before .before .before .before .before .before .before .before .count .ok) (c .before .before .before .before .before .before .before .area .ok), lines-room (sideOf (c .before .before .before .before .before .before .before .before .before .before .before .before .before .args .side .now)) (c .modules .result) (omega (arith, c .modules .ensures, (c .before .before .before .before .before .before .before .before .before .before .before .before .before .pre .0) .sound .few-modules)), (c .before .before .before .before .before .before .before .before .before .before .before .before .before .pre .0) .sound .few-modules, c .modules .ensures, c .before .before .before .before .put-pair .ensures .after, c .before .before .before .before .put-pair .kept .0))
+put-modules-requires c κs =
+    let b = c .before .before .before .before .before .before .before .before .before .before .before .before .before in
+    let a = b .args in
+    let p = b .pre in
+    let n = c .before .before .before .before .before .before .before .before .count in
+    let k = c .before .before .before .before .before .before .before .area in
+    let m = c .modules in
+    let u = c .before .before .before .before .put-pair in
+    let few = p .0 .sound .few-modules in
+    let head = header-room (a .name .now) (n .result) (k .result) (p .2) (n .ok) (k .ok) in
+    let lines = lines-room (sideOf (a .side .now)) (m .result) (omega (arith, m .ensures, few)) in
+    (omega (arith, m .ensures, p .0 .enough), omega (arith, p .3, head, lines, few, m .ensures, u .ensures .after, u .kept .0))
 
 same-length : tie.Need-same-length
 same-length c = search needs
 
 returns : tie.Need-returns
 unfolding bytes
-returns c = (put-as (side-text (c .before .before .before .before .before .before .before .before .before .before .before .before .before .before .before .before .args .name .now) (c .before .before .before .before .before .before .before .before .before .before .before .before .before .before .before .before .args .book .now) (sideOf (c .before .before .before .before .before .before .before .before .before .before .before .before .before .before .before .before .args .side .now)) (c .before .before .before .before .before .before .before .before .before .before .before .count .result) (c .before .before .before .before .before .before .before .before .before .before .area .result) (c .before .before .before .modules .result) (c .before .before .before .before .before .before .before .before .before .before .before .count .ensures) (c .before .before .before .before .before .before .before .before .before .before .area .ensures .0) (c .before .before .before .modules .ensures)) (put-then (omega (arith, c .before .before .before .before .before .before .before .before .before .before .before .before .before .before .before .before .pre .3, header-room (c .before .before .before .before .before .before .before .before .before .before .before .before .before .before .before .before .args .name .now) (c .before .before .before .before .before .before .before .before .before .before .before .count .result) (c .before .before .before .before .before .before .before .before .before .before .area .result) (c .before .before .before .before .before .before .before .before .before .before .before .before .before .before .before .before .pre .2) (c .before .before .before .before .before .before .before .before .before .before .before .count .ok) (c .before .before .before .before .before .before .before .before .before .before .area .ok), c .before .before .before .before .before .before .before .put-pair .ensures .after)) (c .before .before .before .before .before .before .before .put-pair .ensures) (c .before .before .put-modules .ensures)), omega (arith, header-room (c .before .before .before .before .before .before .before .before .before .before .before .before .before .before .before .before .args .name .now) (c .before .before .before .before .before .before .before .before .before .before .before .count .result) (c .before .before .before .before .before .before .before .before .before .before .area .result) (c .before .before .before .before .before .before .before .before .before .before .before .before .before .before .before .before .pre .2) (c .before .before .before .before .before .before .before .before .before .before .before .count .ok) (c .before .before .before .before .before .before .before .before .before .before .area .ok), lines-room (sideOf (c .before .before .before .before .before .before .before .before .before .before .before .before .before .before .before .before .args .side .now)) (c .before .before .before .modules .result) (omega (arith, c .before .before .before .modules .ensures, (c .before .before .before .before .before .before .before .before .before .before .before .before .before .before .before .before .pre .0) .sound .few-modules)), (c .before .before .before .before .before .before .before .before .before .before .before .before .before .before .before .before .pre .0) .sound .few-modules, c .before .before .before .modules .ensures, c .before .before .before .before .before .before .before .put-pair .ensures .after, c .before .before .put-modules .ensures .after))
+returns c =
+    let b = c .before .before .before .before .before .before .before .before .before .before .before .before .before .before .before .before in
+    let a = b .args in
+    let p = b .pre in
+    let n = c .before .before .before .before .before .before .before .before .before .before .before .count in
+    let k = c .before .before .before .before .before .before .before .before .before .before .area in
+    let m = c .before .before .before .modules in
+    let u = c .before .before .before .before .before .before .before .put-pair .ensures in
+    let v = c .before .before .put-modules .ensures in
+    let x = sideOf (a .side .now) in
+    let few = p .0 .sound .few-modules in
+    let head = header-room (a .name .now) (n .result) (k .result) (p .2) (n .ok) (k .ok) in
+    let lines = lines-room x (m .result) (omega (arith, m .ensures, few)) in
+    let text = side-text (a .name .now) (a .book .now) x (n .result) (k .result) (m .result) (n .ensures) (k .ensures .0) (m .ensures) in
+    (put-as text (put-then (omega (arith, p .3, head, u .after)) u v), omega (arith, head, lines, few, m .ensures, u .after, v .after))
 
 pub put-side-spec : {M : Type 1} → statement M
 put-side-spec =

@@ -12,35 +12,60 @@ slice-aggregate-put-number c = search needs
 
 put-number-requires : tie.Need-put-number-requires
 unfolding bytes
-put-number-requires c κs = omega (arith, c .before .before .before .before .before .before .pre .1, price-room (c .before .before .before .before .before .before .args .price) (c .before .before .before .before .before .before .fits .price .fits))
+put-number-requires c κs =
+    let b = c .before .before .before .before .before .before in
+    omega (arith, b .pre .1, price-room (b .args .price) (b .fits .price .fits))
 
 slice-aggregate-put-text : tie.Need-slice-aggregate-put-text
 slice-aggregate-put-text c = search needs
 
 put-text-requires : tie.Need-put-text-requires
 unfolding bytes
-put-text-requires c κs = omega (arith, c .before .before .before .before .before .before .before .before .before .before .before .pre .1, price-room (c .before .before .before .before .before .before .before .before .before .before .before .args .price) (c .before .before .before .before .before .before .before .before .before .before .before .fits .price .fits), c .before .before .before .before .put-number .ensures .after, c .before .before .before .before .put-number .kept .0)
+put-text-requires c κs =
+    let b = c .before .before .before .before .before .before .before .before .before .before .before in
+    let u = c .before .before .before .before .put-number in
+    omega (arith, b .pre .1, price-room (b .args .price) (b .fits .price .fits), u .ensures .after, u .kept .0)
 
 slice-aggregate-put-side : tie.Need-slice-aggregate-put-side
 slice-aggregate-put-side c = search needs
 
 put-side-requires : tie.Need-put-side-requires
 unfolding bytes
-put-side-requires c κs = (c .before .before .before .before .before .before .before .before .before .before .before .before .before .before .before .before .pre .0 .near-lent, c .before .before .before .before .before .before .before .before .before .before .before .before .before .before .before .before .pre .0 .near-spare, omega arith, omega (arith, c .before .before .before .before .before .before .before .before .before .before .before .before .before .before .before .before .pre .1, price-room (c .before .before .before .before .before .before .before .before .before .before .before .before .before .before .before .before .args .price) (c .before .before .before .before .before .before .before .before .before .before .before .before .before .before .before .before .fits .price .fits), c .before .before .before .before .before .before .before .before .before .put-number .ensures .after, c .before .before .before .before .put-text .ensures .after, c .before .before .before .before .before .before .before .before .before .put-number .kept .0, c .before .before .before .before .put-text .kept .0))
+put-side-requires c κs =
+    let b = c .before .before .before .before .before .before .before .before .before .before .before .before .before .before .before .before in
+    let p = b .pre in
+    let u = c .before .before .before .before .before .before .before .before .before .put-number in
+    let v = c .before .before .before .before .put-text in
+    let head = price-room (b .args .price) (b .fits .price .fits) in
+    (p .0 .near-lent, p .0 .near-spare, omega arith, omega (arith, p .1, head, u .ensures .after, v .ensures .after, u .kept .0, v .kept .0))
 
 slice-aggregate-put-side-2 : tie.Need-slice-aggregate-put-side-2
 slice-aggregate-put-side-2 c = search needs
 
 put-side-requires-2 : tie.Need-put-side-requires-2
 unfolding bytes
-put-side-requires-2 c κs = (c .before .before .before .before .before .before .before .before .before .before .before .before .before .before .before .before .before .before .before .before .before .pre .0 .far-lent, c .before .before .before .before .before .before .before .before .before .before .before .before .before .before .before .before .before .before .before .before .before .pre .0 .far-spare, omega arith, omega (arith, c .before .before .before .before .before .before .before .before .before .before .before .before .before .before .before .before .before .before .before .before .before .pre .1, price-room (c .before .before .before .before .before .before .before .before .before .before .before .before .before .before .before .before .before .before .before .before .before .args .price) (c .before .before .before .before .before .before .before .before .before .before .before .before .before .before .before .before .before .before .before .before .before .fits .price .fits), c .before .before .before .before .before .before .before .before .before .before .before .before .before .before .put-number .ensures .after, c .before .before .before .before .before .before .before .before .before .put-text .ensures .after, c .before .before .before .before .put-side .ensures .1, c .before .before .before .before .before .before .before .before .before .before .before .before .before .before .put-number .kept .0, c .before .before .before .before .before .before .before .before .before .put-text .kept .0, c .before .before .before .before .put-side .kept .0))
+put-side-requires-2 c κs =
+    let b = c .before .before .before .before .before .before .before .before .before .before .before .before .before .before .before .before .before .before .before .before .before in
+    let p = b .pre in
+    let u = c .before .before .before .before .before .before .before .before .before .before .before .before .before .before .put-number in
+    let v = c .before .before .before .before .before .before .before .before .before .put-text in
+    let w = c .before .before .before .before .put-side in
+    let head = price-room (b .args .price) (b .fits .price .fits) in
+    (p .0 .far-lent, p .0 .far-spare, omega arith, omega (arith, p .1, head, u .ensures .after, v .ensures .after, w .ensures .1, u .kept .0, v .kept .0, w .kept .0))
 
 same-length : tie.Need-same-length
 same-length c = search needs
 
 returns : tie.Need-returns
 unfolding bytes splitText
-returns c = put-then (omega (arith, c .before .before .before .before .before .before .before .before .before .before .before .before .before .before .before .before .before .before .before .before .before .before .before .before .pre .1, price-room (c .before .before .before .before .before .before .before .before .before .before .before .before .before .before .before .before .before .before .before .before .before .before .before .before .args .price) (c .before .before .before .before .before .before .before .before .before .before .before .before .before .before .before .before .before .before .before .before .before .before .before .before .fits .price .fits), c .before .before .before .before .before .before .before .before .before .before .before .before .before .before .before .before .before .put-number .ensures .after, c .before .before .before .before .before .before .before .before .before .before .before .before .put-text .ensures .after, c .before .before .before .before .before .before .before .put-side .ensures .1)) (put-then (omega (arith, c .before .before .before .before .before .before .before .before .before .before .before .before .before .before .before .before .before .before .before .before .before .before .before .before .pre .1, price-room (c .before .before .before .before .before .before .before .before .before .before .before .before .before .before .before .before .before .before .before .before .before .before .before .before .args .price) (c .before .before .before .before .before .before .before .before .before .before .before .before .before .before .before .before .before .before .before .before .before .before .before .before .fits .price .fits), c .before .before .before .before .before .before .before .before .before .before .before .before .before .before .before .before .before .put-number .ensures .after, c .before .before .before .before .before .before .before .before .before .before .before .before .put-text .ensures .after)) (put-then (omega (arith, c .before .before .before .before .before .before .before .before .before .before .before .before .before .before .before .before .before .before .before .before .before .before .before .before .pre .1, price-room (c .before .before .before .before .before .before .before .before .before .before .before .before .before .before .before .before .before .before .before .before .before .before .before .before .args .price) (c .before .before .before .before .before .before .before .before .before .before .before .before .before .before .before .before .before .before .before .before .before .before .before .before .fits .price .fits), c .before .before .before .before .before .before .before .before .before .before .before .before .before .before .before .before .before .put-number .ensures .after)) (c .before .before .before .before .before .before .before .before .before .before .before .before .before .before .before .before .before .put-number .ensures) (c .before .before .before .before .before .before .before .before .before .before .before .before .put-text .ensures)) (c .before .before .before .before .before .before .before .put-side .ensures .0)) (c .before .before .put-side2 .ensures .0)
+returns c =
+    let b = c .before .before .before .before .before .before .before .before .before .before .before .before .before .before .before .before .before .before .before .before .before .before .before .before in
+    let p = b .pre .1 in
+    let u = c .before .before .before .before .before .before .before .before .before .before .before .before .before .before .before .before .before .put-number .ensures in
+    let v = c .before .before .before .before .before .before .before .before .before .before .before .before .put-text .ensures in
+    let w = c .before .before .before .before .before .before .before .put-side .ensures in
+    let head = price-room (b .args .price) (b .fits .price .fits) in
+    put-then (omega (arith, p, head, u .after, v .after, w .1)) (put-then (omega (arith, p, head, u .after, v .after)) (put-then (omega (arith, p, head, u .after)) u v) (w .0)) (c .before .before .put-side2 .ensures .0)
 
 pub put-split-spec : {M : Type 1} → statement M
 put-split-spec =

@@ -47,7 +47,9 @@ put-decimal-put-byte-requires : (t : ℕ) → put-decimal-lts.Need-put-byte-requ
   put-decimal-below t,
   put-decimal.Post,
 ) (put-decimal-at t) put-decimal.Post
-put-decimal-put-byte-requires t c κs = omega (arith, c .before .before .before .pre .1, ap length (decimal-one (c .before .before .before .args .n) (c .before .if1 .taken)))
+put-decimal-put-byte-requires t c κs =
+    let b = c .before .before .before in
+    omega (arith, b .pre .1, ap length (decimal-one (b .args .n) (c .before .if1 .taken)))
 
 put-decimal-put-decimal-requires : (t : ℕ) → put-decimal-lts.Need-put-decimal-requires (
   put-byte-reads.Asked,
@@ -55,7 +57,10 @@ put-decimal-put-decimal-requires : (t : ℕ) → put-decimal-lts.Need-put-decima
   put-decimal-below t,
   put-decimal.Post,
 ) (put-decimal-at t) put-decimal.Post
-put-decimal-put-decimal-requires t c κs = (omega (arith, c .before .before .before .pre .0, c .before .if1 .left), omega (arith, c .before .before .before .pre .1, decimal-long (c .before .before .before .args .n) (c .before .if1 .left)))
+put-decimal-put-decimal-requires t c κs =
+    let b = c .before .before .before in
+    let l = c .before .if1 .left in
+    (omega (arith, b .pre .0, l), omega (arith, b .pre .1, decimal-long (b .args .n) l))
 
 put-decimal-cast-put-byte-2 : (t : ℕ) → put-decimal-lts.Need-cast-put-byte-2 (
   put-byte-reads.Asked,
@@ -79,7 +84,10 @@ put-decimal-put-byte-requires-2 : (t : ℕ) → put-decimal-lts.Need-put-byte-re
   put-decimal-below t,
   put-decimal.Post,
 ) (put-decimal-at t) put-decimal.Post
-put-decimal-put-byte-requires-2 t c κs = omega (arith, c .before .before .before .before .before .before .before .pre .1, c .before .before .before .put-decimal .ensures .after, c .before .before .before .put-decimal .kept .0, decimal-long (c .before .before .before .before .before .before .before .args .n) (c .before .before .before .before .before .if1 .left))
+put-decimal-put-byte-requires-2 t c κs =
+    let b = c .before .before .before .before .before .before .before in
+    let u = c .before .before .before .put-decimal in
+    omega (arith, b .pre .1, u .ensures .after, u .kept .0, decimal-long (b .args .n) (c .before .before .before .before .before .if1 .left))
 
 put-decimal-same-length : (t : ℕ) → put-decimal-lts.Need-same-length (
   put-byte-reads.Asked,
@@ -111,7 +119,11 @@ put-decimal-returns-2 : (t : ℕ) → put-decimal-lts.Need-returns-2 (
   put-decimal-below t,
   put-decimal.Post,
 ) (put-decimal-at t) put-decimal.Post
-put-decimal-returns-2 t c = rw (decimal-more (c .before .before .before .before .before .before .before .before .before .before .args .n) (c .before .before .before .before .before .before .before .before .if1 .left)) (put-then (omega (arith, c .before .before .before .before .before .before .put-decimal .ensures .after, c .before .before .before .before .before .before .before .before .before .before .pre .1, decimal-long (c .before .before .before .before .before .before .before .before .before .before .args .n) (c .before .before .before .before .before .before .before .before .if1 .left))) (c .before .before .before .before .before .before .put-decimal .ensures) (c .before .before .put-byte2 .ensures))
+put-decimal-returns-2 t c =
+    let b = c .before .before .before .before .before .before .before .before .before .before in
+    let l = c .before .before .before .before .before .before .before .before .if1 .left in
+    let u = c .before .before .before .before .before .before .put-decimal .ensures in
+    rw (decimal-more (b .args .n) l) (put-then (omega (arith, u .after, b .pre .1, decimal-long (b .args .n) l)) u (c .before .before .put-byte2 .ensures))
 
 pub +put-decimal-spec : {M : Type 1} → statement M
 +put-decimal-spec = close μ-put-decimal λ t. put-decimal-lts.spec (

@@ -12,22 +12,36 @@ inside-requires : tie.Need-inside-requires
 inside-requires c κs = search needs
 
 put-decimal-requires : tie.Need-put-decimal-requires
-put-decimal-requires c κs = omega (arith, c .before .before .before .before .before .pre .1, line-long (sideOf (c .before .before .before .before .before .args .side .now)) (c .before .before .before .before .before .args .m) ((sym (c .before .before .inside .ensures) ∙ c .before .if1 .taken)))
+put-decimal-requires c κs =
+    let b = c .before .before .before .before .before in
+    let a = b .args in
+    omega (arith, b .pre .1, line-long (sideOf (a .side .now)) (a .m) (sym (c .before .before .inside .ensures) ∙ c .before .if1 .taken))
 
 slice-aggregate-put-text : tie.Need-slice-aggregate-put-text
 slice-aggregate-put-text c = search needs
 
 put-text-requires : tie.Need-put-text-requires
-put-text-requires c κs = omega (arith, c .before .before .before .before .before .before .before .before .before .before .pre .1, line-long (sideOf (c .before .before .before .before .before .before .before .before .before .before .args .side .now)) (c .before .before .before .before .before .before .before .before .before .before .args .m) ((sym (c .before .before .before .before .before .before .before .inside .ensures) ∙ c .before .before .before .before .before .before .if1 .taken)), c .before .before .before .before .put-decimal .kept .0, c .before .before .before .before .put-decimal .ensures .after)
+put-text-requires c κs =
+    let b = c .before .before .before .before .before .before .before .before .before .before in
+    let a = b .args in
+    let u = c .before .before .before .before .put-decimal in
+    omega (arith, b .pre .1, line-long (sideOf (a .side .now)) (a .m) (sym (c .before .before .before .before .before .before .before .inside .ensures) ∙ c .before .before .before .before .before .before .if1 .taken), u .kept .0, u .ensures .after)
 
 same-length : tie.Need-same-length
 same-length c = search needs
 
 returns : tie.Need-returns
-returns c = rw (line-on (sideOf (c .before .before .before .before .before .before .before .before .before .before .before .before .before .args .side .now)) (c .before .before .before .before .before .before .before .before .before .before .before .before .before .args .m) ((sym (c .before .before .before .before .before .before .before .before .before .before .inside .ensures) ∙ c .before .before .before .before .before .before .before .before .before .if1 .taken)), line-feed) (put-then (omega (arith, c .before .before .before .before .before .before .before .before .before .before .before .before .before .pre .1, c .before .before .before .before .before .before .before .put-decimal .ensures .after, line-long (sideOf (c .before .before .before .before .before .before .before .before .before .before .before .before .before .args .side .now)) (c .before .before .before .before .before .before .before .before .before .before .before .before .before .args .m) ((sym (c .before .before .before .before .before .before .before .before .before .before .inside .ensures) ∙ c .before .before .before .before .before .before .before .before .before .if1 .taken)))) (c .before .before .before .before .before .before .before .put-decimal .ensures) (c .before .before .put-text .ensures))
+returns c =
+    let b = c .before .before .before .before .before .before .before .before .before .before .before .before .before in
+    let a = b .args in
+    let x = sideOf (a .side .now) in
+    let on = sym (c .before .before .before .before .before .before .before .before .before .before .inside .ensures) ∙ c .before .before .before .before .before .before .before .before .before .if1 .taken in
+    let u = c .before .before .before .before .before .before .before .put-decimal .ensures in
+    rw (line-on x (a .m) on, line-feed) (put-then (omega (arith, b .pre .1, u .after, line-long x (a .m) on)) u (c .before .before .put-text .ensures))
 
 returns-2 : tie.Need-returns-2
-returns-2 c = rw (line-off (sideOf (c .before .before .before .before .args .side .now)) (c .before .before .before .before .args .m) ((sym (c .before .inside .ensures) ∙ c .if1 .left))) (put-none (c .before .before .before .before .args .at) (c .before .before .before .before .args .out .now))
+returns-2 c = let a = c .before .before .before .before .args in
+    rw (line-off (sideOf (a .side .now)) (a .m) (sym (c .before .inside .ensures) ∙ c .if1 .left)) (put-none (a .at) (a .out .now))
 
 pub put-module-spec : {M : Type 1} → statement M
 put-module-spec =

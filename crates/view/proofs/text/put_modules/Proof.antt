@@ -24,7 +24,15 @@ unfolding moduleLines
 loop-holds c = (omega arith, put-none (c .before .before .args .at) (c .before .before .args .out .now))
 
 put-module-requires : tie.Need-put-module-requires Inv-loop μ-loop
-put-module-requires c κs = (omega (arith, c .before .before .before .before .before .pre .0), omega (arith, c .before .before .before .before .before .pre .1, c .before .before .loop .inv .1 .after, lines-long (sideOf (c .before .before .before .before .before .args .side .now)) (c .before .before .loop .m), lines-grow (sideOf (c .before .before .before .before .before .args .side .now)) (c .before .before .loop .m + 1) (c .before .before .before .before .before .args .count) (omega arith), put-long (omega (arith, c .before .before .before .before .before .pre .1, lines-long (sideOf (c .before .before .before .before .before .args .side .now)) (c .before .before .loop .m), lines-grow (sideOf (c .before .before .before .before .before .args .side .now)) (c .before .before .loop .m + 1) (c .before .before .before .before .before .args .count) (omega arith))) (c .before .before .loop .inv .1)))
+put-module-requires c κs =
+    let b = c .before .before .before .before .before in
+    let a = b .args in
+    let p = b .pre in
+    let l = c .before .before .loop in
+    let x = sideOf (a .side .now) in
+    let long = lines-long x (l .m) in
+    let grow = lines-grow x (l .m + 1) (a .count) (omega arith) in
+    (omega (arith, p .0), omega (arith, p .1, l .inv .1 .after, long, grow, put-long (omega (arith, p .1, long, grow)) (l .inv .1)))
 
 add-m : tie.Need-add-m Inv-loop μ-loop
 add-m c = search needs
@@ -33,13 +41,29 @@ loop-less : tie.Need-loop-less Inv-loop μ-loop
 loop-less c = search needs
 
 loop-again : tie.Need-loop-again Inv-loop μ-loop
-loop-again c = (omega arith, rw (lines-next (sideOf (c .before .before .before .before .before .before .before .before .args .side .now)) (c .before .before .before .before .before .loop .m)) (put-then (omega (arith, c .before .before .before .before .before .before .before .before .pre .1, c .before .before .before .before .before .loop .inv .1 .after, lines-long (sideOf (c .before .before .before .before .before .before .before .before .args .side .now)) (c .before .before .before .before .before .loop .m), lines-grow (sideOf (c .before .before .before .before .before .before .before .before .args .side .now)) (c .before .before .before .before .before .loop .m + 1) (c .before .before .before .before .before .before .before .before .args .count) (omega arith))) (c .before .before .before .before .before .loop .inv .1) (c .before .before .put-module .ensures)))
+loop-again c =
+    let b = c .before .before .before .before .before .before .before .before in
+    let a = b .args in
+    let l = c .before .before .before .before .before .loop in
+    let x = sideOf (a .side .now) in
+    let long = lines-long x (l .m) in
+    let grow = lines-grow x (l .m + 1) (a .count) (omega arith) in
+    (omega arith, rw (lines-next x (l .m)) (put-then (omega (arith, b .pre .1, l .inv .1 .after, long, grow)) (l .inv .1) (c .before .before .put-module .ensures)))
 
 same-length : tie.Need-same-length Inv-loop μ-loop
-same-length c = put-long (omega (arith, c .before .before .before .before .pre .1, lines-grow (sideOf (c .before .before .before .before .args .side .now)) (c .before .loop .m) (c .before .before .before .before .args .count) (c .before .loop .inv .0))) (c .before .loop .inv .1)
+same-length c =
+    let b = c .before .before .before .before in
+    let a = b .args in
+    let l = c .before .loop in
+    put-long (omega (arith, b .pre .1, lines-grow (sideOf (a .side .now)) (l .m) (a .count) (l .inv .0))) (l .inv .1)
 
 returns : tie.Need-returns Inv-loop μ-loop
-returns c = (let e : c .before .loop .m ≡ c .before .before .before .before .args .count = omega (arith, c .before .loop .inv .0) in subst (λ (k : ℕ). Put (moduleLines (sideOf (c .before .before .before .before .args .side .now)) k) (c .before .before .before .before .args .at) (c .before .before .before .before .args .out .now) (c .before .loop .next) (c .before .loop .out)) e (c .before .loop .inv .1))
+returns c =
+    let b = c .before .before .before .before in
+    let a = b .args in
+    let l = c .before .loop in
+    let e : l .m ≡ a .count = omega (arith, l .inv .0) in
+    subst (λ (k : ℕ). Put (moduleLines (sideOf (a .side .now)) k) (a .at) (a .out .now) (l .next) (l .out)) e (l .inv .1)
 
 pub put-modules-spec : {M : Type 1} → statement M
 put-modules-spec =

@@ -26,7 +26,12 @@ add-out : tie.Need-add-out Inv-loop μ-loop
 add-out c = omega (arith, c .before .before .before .pre, c .before .before .before .good)
 
 slice-write-out : tie.Need-slice-write-out Inv-loop μ-loop
-slice-write-out c = omega (arith, c .before .before .before .pre, length-paste (c .before .before .before .args .out .now) (c .before .before .before .args .at) (c .before .before .before .args .text .now) (c .before .before .loop .i) (omega (arith, c .before .before .before .pre, c .before .before .loop .inv .0)) (c .before .before .loop .inv .0), ap length (c .before .before .loop .inv .1))
+slice-write-out c =
+    let b = c .before .before .before in
+    let a = b .args in
+    let p = b .pre in
+    let l = c .before .before .loop in
+    omega (arith, p, length-paste (a .out .now) (a .at) (a .text .now) (l .i) (omega (arith, p, l .inv .0)) (l .inv .0), ap length (l .inv .1))
 
 add-i : tie.Need-add-i Inv-loop μ-loop
 add-i c = search needs
@@ -35,16 +40,30 @@ loop-less : tie.Need-loop-less Inv-loop μ-loop
 loop-less c = search needs
 
 loop-again : tie.Need-loop-again Inv-loop μ-loop
-loop-again c = (omega arith, ap (λ (d : List ℕ). set d (c .before .before .before .args .at + c .before .before .loop .i) (getD (c .before .before .before .args .text .now) (c .before .before .loop .i) 0)) (c .before .before .loop .inv .1) ∙ put-more (c .before .before .before .args .at) (c .before .before .loop .i) (c .before .before .before .args .text .now) (c .before .before .before .args .out .now) (omega (arith, c .before .before .before .pre)) (omega arith))
+loop-again c =
+    let b = c .before .before .before in
+    let a = b .args in
+    let l = c .before .before .loop in
+    (omega arith, ap (λ (d : List ℕ). set d (a .at + l .i) (getD (a .text .now) (l .i) 0)) (l .inv .1) ∙ put-more (a .at) (l .i) (a .text .now) (a .out .now) (omega (arith, b .pre)) (omega arith))
 
 add-result : tie.Need-add-result Inv-loop μ-loop
 add-result c = omega (arith, c .before .before .pre)
 
 same-length : tie.Need-same-length Inv-loop μ-loop
-same-length c = ap length (c .before .loop .inv .1) ∙ length-paste (c .before .before .args .out .now) (c .before .before .args .at) (c .before .before .args .text .now) (c .before .loop .i) (omega (arith, c .before .before .pre, c .before .loop .inv .0)) (c .before .loop .inv .0)
+same-length c =
+    let b = c .before .before in
+    let a = b .args in
+    let p = b .pre in
+    let l = c .before .loop in
+    ap length (l .inv .1) ∙ length-paste (a .out .now) (a .at) (a .text .now) (l .i) (omega (arith, p, l .inv .0)) (l .inv .0)
 
 returns : tie.Need-returns Inv-loop μ-loop
-returns c = (let e : c .before .loop .i ≡ length (c .before .before .args .text .now) = omega (arith, c .before .loop .inv .0) in record { after = ap (λ (i : ℕ). c .before .before .args .at + i) e; stands = c .before .loop .inv .1 ∙ ap (paste (c .before .before .args .out .now) (c .before .before .args .at) (c .before .before .args .text .now)) e })
+returns c =
+    let b = c .before .before in
+    let a = b .args in
+    let l = c .before .loop in
+    let e : l .i ≡ length (a .text .now) = omega (arith, l .inv .0) in
+    record { after = ap (λ (i : ℕ). a .at + i) e; stands = l .inv .1 ∙ ap (paste (a .out .now) (a .at) (a .text .now)) e }
 
 pub put-text-spec : {M : Type 1} → statement M
 put-text-spec =
