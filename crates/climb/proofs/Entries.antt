@@ -10,7 +10,7 @@ use lib.Dec.{eqb}
 use borrow.Author.Tests.{eqb-true, eqb-false, not-true}
 use Rattle.flow.specs.Search.{rank, left, kind, entered, Pin}
 use Rattle.flow.specs.Cards.{cardOf}
-use Rattle.flow.proofs.SearchLaws.{Read, read}
+use Rattle.flow.proofs.VisitLaws.{Read, read}
 use Rattle.flow.proofs.CardLaws.{Made, card-made, grid-of, run-net}
 use Rattle.climb.specs.Climb.{Lay, Entry, Onward}
 

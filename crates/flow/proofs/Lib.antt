@@ -2,6 +2,8 @@
 pub mod Pins
 pub mod Sets
 pub mod Numbers
+pub mod SpreadLaws
+pub mod VisitLaws
 pub mod SearchLaws
 pub mod CardLaws
 pub mod TableLaws

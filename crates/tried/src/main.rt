@@ -2,6 +2,7 @@
 mod checks;
 mod make;
 mod reader;
+mod rules;
 mod say;
 mod sides;
 
@@ -9,4 +10,5 @@ fn main() {
     reader::run();
     sides::run();
     checks::run();
+    rules::run();
 }

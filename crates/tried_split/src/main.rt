@@ -5,9 +5,11 @@ mod refusals;
 mod rows;
 mod say;
 mod sizes;
+mod ways;
 
 fn main() {
     rows::run();
+    ways::run();
     sizes::run();
     refusals::run();
 }

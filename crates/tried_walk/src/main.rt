@@ -3,11 +3,13 @@ mod gates;
 mod lent;
 mod make;
 mod refusals;
+mod rounds;
 mod rows;
 mod say;
 
 fn main() {
     rows::run();
+    rounds::run();
     gates::run();
     refusals::run();
 }

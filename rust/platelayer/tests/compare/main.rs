@@ -5,6 +5,7 @@
 
 mod books;
 mod calls;
+mod damage;
 mod dice;
 mod given;
 mod safe;
@@ -34,7 +35,7 @@ fn the_library_answers_as_plain_rust_does() {
     let mut tally = Tally::default();
     for _ in 0..asked("PLATELAYER_BOOKS").map_or(BOOKS, |count| count as usize) {
         if dice.one_in(3) {
-            let book = books::damaged(&mut dice);
+            let book = damage::damaged(&mut dice);
             calls::all_on_any_bytes(&mut dice, &book, &mut tally);
         } else {
             let book = books::fair(&mut dice, RARITY);
@@ -52,7 +53,7 @@ fn the_safe_calls_answer_as_plain_rust_does() {
     for _ in 0..1000 {
         let book = books::fair(&mut dice, RARITY);
         safe::all(&mut dice, &book);
-        let book = books::damaged(&mut dice);
+        let book = damage::damaged(&mut dice);
         safe::all(&mut dice, &book);
     }
 }

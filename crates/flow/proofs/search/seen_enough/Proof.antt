@@ -3,7 +3,7 @@ use mathlib.Core.Logic.{inl, ⊎-elim}
 use mathlib.Core.Bool.{true≢false}
 use mathlib.Core.Path.{sym}
 use native.Mathlib.Omega.{arith}
-use Rattle.flow.proofs.SearchLaws.{enough-eq}
+use Rattle.flow.proofs.VisitLaws.{enough-eq}
 use Rattle.flow.proofs.search.seen_enough.Statement.{statement}
 use Rattle.flow.proofs.search.seen_enough.Tie as tie
 

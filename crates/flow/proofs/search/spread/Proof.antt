@@ -1,4 +1,4 @@
-use Rattle.flow.proofs.SearchLaws.{spread-none, spread-skip, spread-mark, ranked, marks}
+use Rattle.flow.proofs.SpreadLaws.{spread-none, spread-skip, spread-mark, ranked, marks}
 use Rattle.flow.proofs.Numbers.{read-sends, read-from}
 use Rattle.flow.proofs.Sets.{in-of, clash}
 use Rattle.flow.specs.Search.{Spread}

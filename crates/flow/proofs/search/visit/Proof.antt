@@ -6,7 +6,8 @@ use native.Mathlib.Omega.{arith}
 use lib.ListN.{getD}
 use borrow.Author.Needs.{needs}
 use Rattle.flow.specs.Search.{st, PinsDone}
-use Rattle.flow.proofs.SearchLaws.{pins-start, pins-step, visit-of, room-more}
+use Rattle.flow.proofs.SpreadLaws.{room-more}
+use Rattle.flow.proofs.VisitLaws.{pins-start, pins-step, visit-of}
 use Rattle.flow.proofs.search.visit.Statement.{statement}
 use Rattle.flow.proofs.search.visit.Tie as tie
 

@@ -1,7 +1,8 @@
 use Rattle.flow.specs.Search.{PinDone}
 use lib.ListN.{set}
 use lib.IntN.{ℤ}
-use Rattle.flow.proofs.SearchLaws.{pin-whole, pin-skip, pin-spread, spread-at, kind-all, kind-some}
+use Rattle.flow.proofs.SpreadLaws.{spread-at}
+use Rattle.flow.proofs.VisitLaws.{pin-whole, pin-skip, pin-spread, kind-all, kind-some}
 use Rattle.flow.proofs.Numbers.{read-back}
 use Rattle.flow.specs.Search.{st, gives, gift, Kind, Enough}
 use lib.Dec.{ltb}
