@@ -183,6 +183,102 @@ module _ (ms nt mk w sn : List ℕ) (N u x : ℕ) (t : Thread ms nt mk w sn N u)
   pub thread-enter-undo : {v′ : ℕ} {sn′ : List ℕ} → v′ ≡ getD ms (entered x) 0 → sn′ ≡ sn → kind x ≢ 0 → Thread ms nt mk (set w v′ x) sn′ N v′
   thread-enter-undo ev es k = rw (es, ev) (entered-by sn (λ e. absurd (k e)) (λ _ _. refl))
 
+  -- as the code puts it
+  pub thread-entered : {v′ : ℕ} {w″ sn′ : List ℕ} → v′ ≡ getD ms (entered x) 0 → w″ ≡ set w v′ x → (kind x ≡ 0 → sn′ ≡ set sn (getD nt (left x) 0) (v′ + 1)) → (kind x ≢ 0 → sn′ ≡ sn) → length sn ≡ N →
+      Thread ms nt mk w″ sn′ N v′
+  thread-entered {v′} {w″} {sn′} ev ew marked same ls = rw ew (go (ℕ-discrete (kind x) 0))
+    where
+      go : Dec (kind x ≡ 0) → Thread ms nt mk (set w v′ x) sn′ N v′
+      go (yes k) = thread-enter-room ev refl refl (marked k) k ls
+      go (no k) = thread-enter-undo ev (same k) k
+
+-- ---- one step in place of another, between the same modules
+
+module _ (ms nt mk w sn : List ℕ) (N z v x : ℕ) (t : Thread ms nt mk w sn N z) (on : In w v) (plain : getD mk v 0 ≢ 1)
+    (o : Onward ms nt mk (set w v 0) sn (getD ms (left (getD w v 0)) 0) (rank (getD w v 0)) x) (back : getD ms (entered x) 0 ≡ v) (nets : Named nt N) where
+  abbrev w⁼ : List ℕ
+  w⁼ = set w v x
+
+  lv⁼ : v < length w
+  lv⁼ = in-length w v on
+
+  old : Trod ms nt w N v
+  old = t .trail .step v on plain
+
+  -- no rank changes
+  same-rank : (m : ℕ) → rank (getD w⁼ m 0) ≡ rank (getD w m 0)
+  same-rank = set-each (λ m y. rank y ≡ rank (getD w m 0)) w v x lv⁼ (o .rank) (λ _ _. refl)
+
+  -- who was on the way is, and no other
+  stays : (m : ℕ) → In w m → In w⁼ m
+  stays = set-each (λ m y. In w m → 0 < y) w v x lv⁼ (λ i. omega (arith, o .rank, t .above v on)) (λ m _ i. i)
+
+  was : (m : ℕ) → In w⁼ m → In w m
+  was = set-each (λ m y. 0 < y → In w m) w v x lv⁼ (λ _. on) (λ m _ i. i)
+
+  each⁼ : (P : ℕ → ℕ → Type 0) → P v x → ((m : ℕ) → In w m → m ≢ v → P m (getD w m 0)) → (m : ℕ) → In w⁼ m → P m (getD w⁼ m 0)
+  each⁼ P here there = set-each (λ m y. 0 < y → P m y) w v x lv⁼ (λ _. here) (λ m q i. there m i q)
+
+  step⁼ : (m : ℕ) → In w⁼ m → getD mk m 0 ≢ 1 → Tread ms nt w⁼ N (getD w⁼ m 0)
+  step⁼ = each⁼ (λ m y. getD mk m 0 ≢ 1 → Tread ms nt w⁼ N y)
+      (λ _. record {
+        in-left = o .in-left;
+        in-entered = o .in-entered;
+        net = nets (left x) (omega (arith, o .in-left, t .trail .nts));
+        same = o .same;
+        from = subst (In w⁼) (sym (o .from)) (stays _ (old .from));
+        lower = omega (arith, ap (λ (k : ℕ). rank (getD w⁼ k 0)) (o .from), same-rank (getD ms (left (getD w v 0)) 0), old .lower, o .rank);
+      })
+      (λ m i _ n. let k = t .trail .step m i n in record {
+        in-left = k .in-left;
+        in-entered = k .in-entered;
+        net = k .net;
+        same = k .same;
+        from = stays _ (k .from);
+        lower = omega (arith, same-rank (getD ms (left (getD w m 0)) 0), k .lower);
+      })
+
+  -- if the net's room is marked with v where the step uses it, and no mark but those of v is lost
+  swapped-by : (sn′ : List ℕ) → (kind x ≡ 0 → getD sn′ (getD nt (left x) 0) 0 ≡ suc v) → ((e : ℕ) → getD sn e 0 ≢ 0 → getD sn′ e 0 ≡ getD sn e 0) → Thread ms nt mk w⁼ sn′ N z
+  swapped-by sn′ marks keeps = record {
+    trail = record {
+      lenw = length-set w v x ∙ t .trail .lenw;
+      nts = t .trail .nts;
+      few = t .trail .few;
+      ranks = λ m i. omega (arith, same-rank m, t .trail .ranks m (was m i));
+      step = λ m i n. trod-of ms nt N w⁼ m (step⁼ m i n);
+    };
+    tip = stays z (t .tip);
+    above = λ m i. omega (arith, same-rank m, t .above m (was m i));
+    begins = λ m i e. same-rank m ∙ t .begins m (was m i) e;
+    last = λ m i n. omega (arith, same-rank m, same-rank z, t .last m (was m i) n);
+    once = λ m m′ i i′ e. t .once m m′ (was m i) (was m′ i′) (sym (same-rank m) ∙ e ∙ same-rank m′);
+    next = each⁼ (λ m y. getD mk m 0 ≢ 1 → rank y ≡ suc (rank (getD w⁼ (getD ms (left y) 0) 0)))
+        (λ _. omega (arith, ap (λ (k : ℕ). rank (getD w⁼ k 0)) (o .from), same-rank (getD ms (left (getD w v 0)) 0), t .next v on plain, o .rank))
+        (λ m i _ n. omega (arith, t .next m i n, same-rank (getD ms (left (getD w m 0)) 0)));
+    to = each⁼ (λ m y. getD mk m 0 ≢ 1 → getD ms (entered y) 0 ≡ m) (λ _. back) (λ m i _. t .to m i);
+    small = each⁼ (λ m y. getD mk m 0 ≢ 1 → kind y ≤ 2) (λ _. o .small) (λ m i _. t .small m i);
+    opens = each⁼ (λ m y. getD mk m 0 ≢ 1 → kind y ≡ 0 → getD sn′ (getD nt (left y) 0) 0 ≡ suc m)
+        (λ _. marks)
+        (λ m i _ n k. let q = t .opens m i n k in keeps _ (λ e. absurd (omega arith)) ∙ q);
+  }
+
+  -- as the code puts it
+  pub thread-swapped : {v′ : ℕ} {w″ sn′ : List ℕ} → v′ ≡ getD ms (entered x) 0 → w″ ≡ set w v′ x → (kind x ≡ 0 → sn′ ≡ set sn (getD nt (left x) 0) (v′ + 1)) → (kind x ≢ 0 → sn′ ≡ sn) → length sn ≡ N →
+      Thread ms nt mk w″ sn′ N z
+  thread-swapped {v′} {w″} {sn′} ev ew marked same ls = rw (ew, ev ∙ back) (go (ℕ-discrete (kind x) 0))
+    where
+      e : ℕ
+      e = getD nt (left x) 0
+
+      le : e < length sn
+      le = omega (arith, ls, nets (left x) (omega (arith, o .in-left, t .trail .nts)))
+
+      go : Dec (kind x ≡ 0) → Thread ms nt mk w⁼ sn′ N z
+      go (yes k) = rw (marked k, ev ∙ back, add-one)
+          (swapped-by (set sn e (suc v)) (λ _. getD-set-same sn e (suc v) 0 le) (λ i q. getD-set-other sn e i (suc v) 0 (λ h. q (ap (λ (j : ℕ). getD sn j 0) h ∙ o .room k))))
+      go (no k) = rw (same k) (swapped-by sn (λ h. absurd (k h)) (λ _ _. refl))
+
 -- ---- one step back
 
 module _ (ms nt mk w sn : List ℕ) (N u : ℕ) (t : Thread ms nt mk w sn N u) (n : getD mk u 0 ≢ 1) where

@@ -5,7 +5,7 @@ use mathlib.Core.Logic.{_≢_}
 use mathlib.Core.Bool.{Bool, true}
 use mathlib.Core.List.{List}
 use Prim.Native.Nat.{ℕ, suc, _+_, _*_, _≤_, _<_}
-use lib.ListN.{length, getD}
+use lib.ListN.{length, getD, set}
 use Rattle.flow.specs.Search.{In, rank, left, kind, entered, Pin, Tables}
 use Rattle.flow.specs.Cards.{Laid}
 use Rattle.flow.specs.Push.{Trail}
@@ -20,11 +20,6 @@ pub record Lay (fs ms ws nt at pl mk : List ℕ) : Type 0 where
 -- every pin names one of M modules, or of M nets
 abbrev pub Named : List ℕ → ℕ → Type 0
 Named xs M = (p : ℕ) → p < length xs → getD xs p 0 < M
-
--- the first t places of the queue name modules
-pub record Queued (M t : ℕ) (q : List ℕ) : Type 0 where
-  pub fits : t ≤ length q
-  pub names : (j : ℕ) → j < t → getD q j 0 < M
 
 -- x tells a step from pin a into a pin of lo up to hi, whose module is no meter and not on the way; by the net's room only if it is free
 pub record Entry (ms mk w : List ℕ) (lo hi : ℕ) (free : Bool) (r a x : ℕ) : Type 0 where
@@ -49,6 +44,10 @@ pub record Onward (ms nt mk w sn : List ℕ) (u r x : ℕ) : Type 0 where
   pub few : r ≤ length mk
   pub small : kind x ≤ 2
   pub room : kind x ≡ 0 → getD sn (getD nt (left x) 0) 0 ≡ 0
+
+-- x tells a step to v from the module before it on the way
+abbrev pub Instead : List ℕ → List ℕ → List ℕ → List ℕ → List ℕ → ℕ → ℕ → Type 0
+Instead ms nt mk w sn v x = Onward ms nt mk (set w v 0) sn (getD ms (left (getD w v 0)) 0) (rank (getD w v 0)) x × (getD ms (entered x) 0 ≡ v)
 
 -- no module is on the way
 abbrev pub Empty : List ℕ → Type 0

@@ -2,4 +2,6 @@
 pub mod climb;
 mod levels;
 mod onward;
+mod rows;
+mod sets;
 mod ways;

@@ -2,10 +2,14 @@
 ghost use mathlib.Core.Path.{_≡_};
 ghost use mathlib.Core.Logic.{_≢_};
 ghost use mathlib.Core.Bool.{false};
-ghost use Prim.Native.Nat.{suc, _≤_, _<_};
-ghost use lib.ListN.{length, getD};
-ghost use Rattle.flow.specs.Search.{rank};
-ghost use Rattle.climb.specs.Climb.{Lay, Named, Entry, Onward};
+ghost use Prim.Native.Nat.{suc, _+_, _≤_, _<_};
+ghost use lib.ListN.{length, getD, set};
+ghost use Rattle.flow.specs.Search.{In, rank, left};
+ghost use Rattle.flow.specs.Push.{Trail, Level};
+ghost use Rattle.climb.specs.Climb.{Lay, Named, Entry, Onward, Instead};
+
+// A way of more steps than these is long.
+pub const LONG: usize = 40;
 
 // How the pins lo .. hi of a net are looked at, from its pin a: the distance sought, whether a takes, whether the net has room that the way does not use, and the rank that the step would have.
 struct Look {
@@ -26,6 +30,13 @@ fn kind_to(takes: bool, sends: bool) -> u8
         return 1;
     }
     if sends { 2 } else { 0 }
+}
+
+// The rank of the step that x tells.
+pub fn rank_of(x: u64) -> usize
+    ensures { λ r. ⌜ r ≡ rank x ⌝ }
+{
+    (x / 4294967296) as usize
 }
 
 // The rank of a step after the one that x tells.
@@ -60,7 +71,7 @@ fn entry(mods: &[u16], mark: &[u8], flow: &[i32], how: &[u64], dist: &[u16], loo
     0
 }
 
-// The first step that leaves by pin a, as one number; 0 if there is none.
+// The first step that leaves by pin a to the distance before d, as one number; 0 if there is none. Only a net by which the distance d was found has one.
 fn leave_by(
     first: &[u16],
     mods: &[u16],
@@ -74,21 +85,26 @@ fn leave_by(
     how: &[u64],
     seen: &[u16],
     dist: &[u16],
+    fullat: &[u16],
+    partat: &[u16],
     u: usize,
     a: u16,
-    lower: u16,
+    d: u16,
     rank: usize,
 ) -> u64
-    requires { ⌜ Lay (now first) (now mods) (now weight) (now nets) (now at) (now pins) (now mark) × (length (now sums) ≡ length (now weight)) × (length (now flow) ≡ length (now mods)) × (length (now how) ≡ length (now mark)) × (length (now seen) ≡ length (now weight)) × (length (now dist) ≡ length (now mark)) × (a < length (now mods)) × (getD (now mods) a 0 ≡ u) × (rank ≤ length (now mark)) × (0 < rank) ⌝ }
+    requires { ⌜ Lay (now first) (now mods) (now weight) (now nets) (now at) (now pins) (now mark) × (length (now sums) ≡ length (now weight)) × (length (now flow) ≡ length (now mods)) × (length (now how) ≡ length (now mark)) × (length (now seen) ≡ length (now weight)) × (length (now dist) ≡ length (now mark)) × (length (now weight) ≤ length (now fullat)) × (length (now weight) ≤ length (now partat)) × (a < length (now mods)) × (getD (now mods) a 0 ≡ u) × (rank ≤ length (now mark)) × (0 < rank) × (0 < d) ⌝ }
     ensures { λ x. ⌜ (x ≢ 0 → Onward (now (mods .entry)) (now (nets .entry)) (now (mark .entry)) (now (how .entry)) (now (seen .entry)) u rank x) ⌝ }
 {
     let p = flow::num::wide(a);
     let n = flow::num::wide(nets[p]);
+    if (fullat[n] != d) & (partat[n] != d) {
+        return 0;
+    }
     let room = sums[n] < flow::num::wide32(weight[n]);
     let look = Look {
         lo: flow::num::wide(first[n]),
         hi: flow::num::wide(first[n + 1]),
-        lower: lower,
+        lower: d - 1,
         takes: flow[p] < 0,
         open: room & (seen[n] == 0),
         rank: rank,
@@ -97,7 +113,88 @@ fn leave_by(
     entry(mods, mark, flow, how, dist, look)
 }
 
-// The next step from u, from the pin on where the last look at u ended; 0 if there is none.
+// How much the step that x tells can carry; 0 if x tells none.
+fn room_of(
+    mods: &[u16],
+    weight: &[u16],
+    nets: &[u16],
+    mark: &[u8],
+    sums: &[u32],
+    flow: &[i32],
+    how: &[u64],
+    seen: &[u16],
+    u: usize,
+    rank: usize,
+    x: u64,
+) -> u32
+    requires { ⌜ Level (now mods) (now weight) (now sums) (now flow) × Named (now nets) (length (now weight)) × (length (now nets) ≡ length (now mods)) × (length (now mods) < 16384) × (x ≢ 0 → Onward (now mods) (now nets) (now mark) (now how) (now seen) u rank x) ⌝ }
+{
+    if x == 0 {
+        return 0;
+    }
+    flow::push::step_room(weight, nets, sums, flow, x)
+}
+
+// Of the next steps from u, by its pins lo .. hi, one that carries the most; 0 if there is none.
+fn widest(
+    first: &[u16],
+    mods: &[u16],
+    weight: &[u16],
+    nets: &[u16],
+    at: &[u16],
+    pins: &[u16],
+    mark: &[u8],
+    sums: &[u32],
+    flow: &[i32],
+    how: &[u64],
+    seen: &[u16],
+    dist: &[u16],
+    fullat: &[u16],
+    partat: &[u16],
+    u: usize,
+    lo: usize,
+    hi: usize,
+    d: u16,
+    rank: usize,
+) -> u64
+    requires { ⌜ Lay (now first) (now mods) (now weight) (now nets) (now at) (now pins) (now mark) × Level (now mods) (now weight) (now sums) (now flow) × (length (now how) ≡ length (now mark)) × (length (now seen) ≡ length (now weight)) × (length (now dist) ≡ length (now mark)) × (length (now weight) ≤ length (now fullat)) × (length (now weight) ≤ length (now partat)) × (u < length (now mark)) × (getD (now at) u 0 ≤ lo) × (hi ≡ getD (now at) (u + 1) 0) × (rank ≤ length (now mark)) × (0 < rank) × (0 < d) ⌝ }
+    ensures { λ x. ⌜ (x ≢ 0 → Onward (now (mods .entry)) (now (nets .entry)) (now (mark .entry)) (now (how .entry)) (now (seen .entry)) u rank x) ⌝ }
+{
+    let mut best: u64 = 0;
+    let mut most: u32 = 0;
+    let mut i = lo;
+    while i < hi {
+        let x = leave_by(
+            first,
+            mods,
+            weight,
+            nets,
+            at,
+            pins,
+            mark,
+            sums,
+            flow,
+            how,
+            seen,
+            dist,
+            fullat,
+            partat,
+            u,
+            pins[i],
+            d,
+            rank,
+        );
+        let room = room_of(mods, weight, nets, mark, sums, flow, how, seen, u, rank, x);
+        if room > most {
+            best = x;
+            most = room;
+        }
+        i += 1;
+    }
+    best
+}
+
+// The next step from u, from the pin on where the last look at u ended; 0 if there is none. On a long way each push costs much, so there the widest step is sought.
 pub fn onward(
     first: &[u16],
     mods: &[u16],
@@ -111,10 +208,12 @@ pub fn onward(
     how: &[u64],
     seen: &[u16],
     dist: &[u16],
+    fullat: &[u16],
+    partat: &[u16],
     u: usize,
     off: &mut [u16],
 ) -> u64
-    requires { ⌜ Lay (now first) (now mods) (now weight) (now nets) (now at) (now pins) (now mark) × (length (now sums) ≡ length (now weight)) × (length (now flow) ≡ length (now mods)) × (length (now how) ≡ length (now mark)) × (length (now seen) ≡ length (now weight)) × (length (now dist) ≡ length (now mark)) × (length (now off) ≡ length (now mark)) × (u < length (now mark)) ⌝ }
+    requires { ⌜ Lay (now first) (now mods) (now weight) (now nets) (now at) (now pins) (now mark) × Level (now mods) (now weight) (now sums) (now flow) × (length (now how) ≡ length (now mark)) × (length (now seen) ≡ length (now weight)) × (length (now dist) ≡ length (now mark)) × (length (now weight) ≤ length (now fullat)) × (length (now weight) ≤ length (now partat)) × (length (now off) ≡ length (now mark)) × (u < length (now mark)) ⌝ }
     ensures { λ x. ⌜ (x ≢ 0 → Onward (now (mods .entry)) (now (nets .entry)) (now (mark .entry)) (now (how .entry)) (now (seen .entry)) u (suc (rank (getD (now (how .entry)) u 0))) x) ⌝ }
 {
     let d = dist[u];
@@ -124,6 +223,29 @@ pub fn onward(
     }
     let lo = flow::num::wide(at[u]);
     let hi = flow::num::wide(at[u + 1]);
+    if rank + flow::num::wide(d) > LONG {
+        return widest(
+            first,
+            mods,
+            weight,
+            nets,
+            at,
+            pins,
+            mark,
+            sums,
+            flow,
+            how,
+            seen,
+            dist,
+            fullat,
+            partat,
+            u,
+            lo,
+            hi,
+            d,
+            rank,
+        );
+    }
     let mut i = lo + flow::num::wide(off[u]);
     while i < hi {
         let x = leave_by(
@@ -139,9 +261,11 @@ pub fn onward(
             how,
             seen,
             dist,
+            fullat,
+            partat,
             u,
             pins[i],
-            d - 1,
+            d,
             rank,
         );
         if x != 0 {
@@ -151,4 +275,83 @@ pub fn onward(
         i += 1;
     }
     0
+}
+
+// x if the step that it tells leads to v; else 0.
+fn only_to(
+    mods: &[u16],
+    nets: &[u16],
+    mark: &[u8],
+    how: &[u64],
+    seen: &[u16],
+    v: usize,
+    x: u64,
+) -> u64
+    requires { ⌜ (x ≢ 0 → Onward (now mods) (now nets) (now mark) (set (now how) v 0) (now seen) (getD (now mods) (left (getD (now how) v 0)) 0) (rank (getD (now how) v 0)) x) ⌝ }
+    ensures { λ r. ⌜ (r ≢ 0 → Instead (now (mods .entry)) (now (nets .entry)) (now (mark .entry)) (now (how .entry)) (now (seen .entry)) v r) ⌝ }
+{
+    if x == 0 {
+        return 0;
+    }
+    if flow::num::wide(mods[flow::push::entered_pin(x)]) == v {
+        x
+    } else {
+        0
+    }
+}
+
+// A step to the module v, which is on the way, from the module before it, in place of the one that is there; 0 if the widest step leads elsewhere.
+pub fn instead(
+    first: &[u16],
+    mods: &[u16],
+    weight: &[u16],
+    nets: &[u16],
+    at: &[u16],
+    pins: &[u16],
+    mark: &[u8],
+    sums: &[u32],
+    flow: &[i32],
+    seen: &[u16],
+    dist: &[u16],
+    fullat: &[u16],
+    partat: &[u16],
+    v: usize,
+    how: &mut [u64],
+) -> u64
+    requires { ⌜ Lay (now first) (now mods) (now weight) (now nets) (now at) (now pins) (now mark) × Level (now mods) (now weight) (now sums) (now flow) × Trail (now mods) (now nets) (now mark) (now how) (length (now weight)) × In (now how) v × (getD (now mark) v 0 ≢ 1) × (0 < rank (getD (now how) v 0)) × (length (now seen) ≡ length (now weight)) × (length (now dist) ≡ length (now mark)) × (length (now weight) ≤ length (now fullat)) × (length (now weight) ≤ length (now partat)) ⌝ }
+    ensures { λ x. ⌜ (now (how .exit) ≡ now (how .entry)) × (x ≢ 0 → Instead (now (mods .entry)) (now (nets .entry)) (now (mark .entry)) (now (how .entry)) (now (seen .entry)) v x) ⌝ }
+{
+    let old = how[v];
+    let u = flow::num::wide(mods[flow::push::left_pin(old)]);
+    let d = dist[u];
+    if d == 0 {
+        return 0;
+    }
+    let lo = flow::num::wide(at[u]);
+    let hi = flow::num::wide(at[u + 1]);
+    let rank = rank_of(old);
+    how[v] = 0;
+    let x = widest(
+        first,
+        mods,
+        weight,
+        nets,
+        at,
+        pins,
+        mark,
+        sums,
+        flow,
+        &*how,
+        seen,
+        dist,
+        fullat,
+        partat,
+        u,
+        lo,
+        hi,
+        d,
+        rank,
+    );
+    how[v] = old;
+    only_to(mods, nets, mark, &*how, seen, v, x)
 }

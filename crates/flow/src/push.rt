@@ -47,14 +47,24 @@ pub fn step_room(weight: &[u16], nets: &[u16], sums: &[u32], flow: &[i32], x: u6
     crate::num::wide32(weight[n]) - sums[n]
 }
 
-// The smaller of two numbers.
-fn least_of(x: u32, y: u32) -> u32
-    ensures { λ r. ⌜ r ≡ min x y ⌝ }
-{
-    if x <= y { x } else { y }
+// The least room on a way, and the module nearest to the meter whose step has no more.
+pub struct Narrow {
+    pub room: u32,
+    pub at: usize,
 }
 
-// How much the way from z back to a meter can carry.
+// With one step more, the one to u, which is nearer to the meter: if the rooms are equal, u is kept.
+fn narrower(n: Narrow, room: u32, u: usize) -> Narrow
+    ensures { λ r. ⌜ r .room ≡ min (n .room) room ⌝ }
+{
+    if n.room < room {
+        n
+    } else {
+        Narrow { room: room, at: u }
+    }
+}
+
+// How much the way from z back to a meter can carry, and where it is narrow.
 fn way_room(
     mods: &[u16],
     weight: &[u16],
@@ -64,18 +74,18 @@ fn way_room(
     sums: &[u32],
     flow: &[i32],
     z: usize,
-) -> u32
+) -> Narrow
     requires { ⌜ Trail (now mods) (now nets) (now mark) (now how) (length (now weight)) × Level (now mods) (now weight) (now sums) (now flow) × In (now how) z ⌝ }
-    ensures { λ r. ⌜ r ≡ wayRoom (now (mods .entry)) (now (weight .entry)) (now (nets .entry)) (now (mark .entry)) (now (how .entry)) (now (sums .entry)) (now (flow .entry)) (suc (length (now (mark .entry)))) z ⌝ }
+    ensures { λ r. ⌜ r .room ≡ wayRoom (now (mods .entry)) (now (weight .entry)) (now (nets .entry)) (now (mark .entry)) (now (how .entry)) (now (sums .entry)) (now (flow .entry)) (suc (length (now (mark .entry)))) z ⌝ }
 {
-    let mut d: u32 = 65535;
+    let mut n = Narrow { room: 65535, at: z };
     let mut u = z;
     while mark[u] != 1 {
         let x = how[u];
-        d = least_of(d, step_room(weight, nets, sums, flow, x));
+        n = narrower(n, step_room(weight, nets, sums, flow, x), u);
         u = crate::num::wide(mods[left_pin(x)]);
     }
-    d
+    n
 }
 
 // d more from pin a, d less from pin b, and the net's sum with them.
@@ -117,7 +127,7 @@ fn push_way(
     }
 }
 
-// Pushes along the way from z back to a meter what it carries on the flow as it is now.
+// Pushes along the way from z back to a meter what it carries on the flow as it is now, and tells how much that was. Where the way was narrow is a guide alone: nothing rests on it.
 pub fn push_from(
     mods: &[u16],
     weight: &[u16],
@@ -127,14 +137,16 @@ pub fn push_from(
     z: usize,
     sums: &mut [u32],
     flow: &mut [i32],
-)
+) -> Narrow
     requires { ⌜ MayCarry (now mods) (now weight) (now nets) (now mark) (now how) (now sums) (now flow) z ⌝ }
     ensures { λ _. ⌜ Carried (now (mods .entry)) (now (weight .entry)) (now (nets .entry)) (now (mark .entry)) (now (how .entry)) (now (sums .entry)) (now (flow .entry)) z (now (sums .exit)) (now (flow .exit)) ⌝ }
 {
-    let d = way_room(mods, weight, nets, mark, how, &*sums, &*flow, z);
+    let n = way_room(mods, weight, nets, mark, how, &*sums, &*flow, z);
+    let d = n.room;
     if d > 0 {
         push_way(mods, nets, mark, how, z, d, &mut *sums, &mut *flow);
     }
+    n
 }
 
 // Pushes from every maker that was reached, so that one search serves them all; was any? Each way is walked twice, once for its room and once to push. Net rule and module rule hold after each push as before it.

@@ -78,7 +78,6 @@ pub fn lift(
 {
     let m = mark.len();
     let n = weight.len();
-    let mut queue: [u16; Book::MODULES] = [0; Book::MODULES];
     let mut how: [u64; Book::MODULES] = [0; Book::MODULES];
     let mut seen: [u16; Book::NETS] = [0; Book::NETS];
     let mut dist: [u16; Book::MODULES] = [0; Book::MODULES];
@@ -92,7 +91,6 @@ pub fn lift(
         at,
         pins,
         mark,
-        &mut queue[..m],
         &mut how[..m],
         &mut seen[..n],
         &mut dist[..m],

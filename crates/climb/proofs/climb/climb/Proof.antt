@@ -1,215 +1,124 @@
--- `climb::climb::climb` meets its contract: before each round the flow is steady and no module is on the way. Assumes nothing.
-use mathlib.Core.Path.{_≡_, sym, _∙_}
-use Prim.Native.Nat.{_-_}
-use native.Mathlib.Omega.{arith}
-use lib.ListN.{length}
-use borrow.Author.Needs.{needs}
-use Rattle.flow.specs.Cards.{cardOf}
-use Rattle.flow.specs.Raise.{Steady}
-use Rattle.flow.proofs.CardLaws.{card-made}
+-- `climb::climb::climb` meets its contract: the flow is steady with the sums just made. Assumes nothing.
 use Rattle.flow.proofs.WholeLaws.{summable-of, steady-of}
-use Rattle.climb.specs.Climb.{Empty, Sized}
+use mathlib.Core.Path.{refl, _∙_}
+use borrow.Author.Needs.{needs}
+use native.Mathlib.Omega.{arith}
 use Rattle.climb.proofs.climb.climb.Statement.{statement}
 use Rattle.climb.proofs.climb.climb.Tie as tie
 
-abbrev Inv-loop : tie.InvT-loop
-Inv-loop first mods weight nets at pins mark queue₀ how₀ seen₀ dist₀ off₀ sums₀ flow₀ k₀ queue how seen dist off sums flow k =
-    Steady (cardOf first mods weight mark) mods sums flow × Sized mark weight how seen dist off × Empty how × (length queue ≡ length mark)
+net-sums-requires : tie.Need-net-sums-requires
+net-sums-requires c κs = summable-of (c .before .before .before .before .before .before .before .before .before .before .before .before .before .before .args .first .now) (c .before .before .before .before .before .before .before .before .before .before .before .before .before .before .args .mods .now) (c .before .before .before .before .before .before .before .before .before .before .before .before .before .before .args .weight .now) (c .before .before .before .before .before .before .before .before .before .before .before .before .before .before .args .mark .now) (c .before .before .before .before .before .before .before .before .before .before .before .before .before .before .pre .0 .laid) (λ e l. omega (arith, c .before .before .before .before .before .before .before .before .before .before .before .shared-slice-known3 .given e)) (c .before .before .before .before .before .before .before .before .before .before .before .before .before .before .args .flow .now) (c .before .before .before .before .before .before .before .before .before .before .before .before .before .before .pre .4) (c .before .before .before .before .before .before .before .before .before .before .before .before .before .before .pre .5) _ (c .before .before .before .before .before .before .before .before .before .before .before .before .before .before .pre .3)
 
-abbrev μ-loop : tie.MeasureT-loop
-μ-loop first mods weight nets at pins mark queue₀ how₀ seen₀ dist₀ off₀ sums₀ flow₀ k₀ queue how seen dist off sums flow k =
-    length mark - k
-
-net-sums-requires : tie.Need-net-sums-requires Inv-loop μ-loop
-net-sums-requires c κs =
-    let args = c .before .before .before .before .before .before .before .before .before .before .before .before .before .before .before .args in
-    let pre = c .before .before .before .before .before .before .before .before .before .before .before .before .before .before .before .pre in
-    let shared-slice-known3 = c .before .before .before .before .before .before .before .before .before .before .before .before .shared-slice-known3 in
-    summable-of (args .first .now) (args .mods .now) (args .weight .now) (args .mark .now) (pre .0 .laid) (λ e l. omega (arith, shared-slice-known3 .given e)) (args .flow .now) (pre .2) (pre .3) _ (pre .0 .sums)
-
-forget-requires : tie.Need-forget-requires Inv-loop μ-loop
+forget-requires : tie.Need-forget-requires
 forget-requires c κs = search needs
 
-loop-holds : tie.Need-loop-holds Inv-loop μ-loop
-loop-holds c =
-    let args = c .before .before .before .before .before .before .before .before .before .before .before .before .before .before .before .before .before .before .before .before .before .before .args in
-    let pre = c .before .before .before .before .before .before .before .before .before .before .before .before .before .before .before .before .before .before .before .before .before .before .pre in
-    let shared-slice-known3 = c .before .before .before .before .before .before .before .before .before .before .before .before .before .before .before .before .before .before .before .shared-slice-known3 in
-    let net-sums = c .before .before .before .before .before .before .net-sums in
-    let forget = c .before .before .forget in
-    let sums = net-sums .kept .1 .1 .0 in
-    (steady-of (args .first .now) (args .mods .now) (args .weight .now) (args .mark .now) (pre .0 .laid) (λ e l. omega (arith, shared-slice-known3 .given e)) (args .flow .now) (pre .2) (pre .3) _ (sums ∙ pre .0 .sums) (record { sum = λ e l. net-sums .ensures .sum e (omega (arith, sums)) }), record { how = forget .kept .0 ∙ pre .1 .how; seen = pre .1 .seen; dist = pre .1 .dist; off = pre .1 .off }, forget .ensures, pre .0 .queue)
+slice-aggregate-note-all : tie.Need-slice-aggregate-note-all
+slice-aggregate-note-all c = search needs
 
-levels-requires : tie.Need-levels-requires Inv-loop μ-loop
-levels-requires c κs =
-    let args = c .before .before .before .before .before .before .before .before .before .before .before .before .before .before .before .before .before .before .before .before .before .before .before .before .before .before .before .before .before .args in
-    let pre = c .before .before .before .before .before .before .before .before .before .before .before .before .before .before .before .before .before .before .before .before .before .before .before .before .before .before .before .before .before .pre in
-    let loop = c .before .before .before .before .before .before .loop in
-    (record { laid = pre .0 .laid; tables = pre .0 .tables; pins = pre .0 .pins; modules = pre .0 .modules }, loop .inv .0 .sums .len ∙ card-made (args .first .now) (args .mods .now) (args .weight .now) (args .mark .now) (pre .0 .laid) .nets, loop .inv .0 .flows, loop .inv .1 .seen, loop .inv .1 .dist, loop .inv .3)
+slice-aggregate-note-all-2 : tie.Need-slice-aggregate-note-all-2
+slice-aggregate-note-all-2 c = search needs
 
-clear-requires : tie.Need-clear-requires Inv-loop μ-loop
-clear-requires c κs = search needs
+note-all-requires : tie.Need-note-all-requires
+note-all-requires c κs = search needs
 
-clear-requires-2 : tie.Need-clear-requires-2 Inv-loop μ-loop
-clear-requires-2 c κs = search needs
+slice-aggregate-mark-row : tie.Need-slice-aggregate-mark-row
+slice-aggregate-mark-row c = search needs
 
-try-all-requires : tie.Need-try-all-requires Inv-loop μ-loop
-try-all-requires c κs =
-    let pre = c .before .before .before .before .before .before .before .before .before .before .before .before .before .before .before .before .before .before .before .before .before .before .before .before .before .before .before .before .before .before .before .before .before .before .before .before .before .before .before .before .before .before .before .before .before .before .before .before .before .before .before .pre in
-    let loop = c .before .before .before .before .before .before .before .before .before .before .before .before .before .before .before .before .before .before .before .before .before .before .before .before .before .before .before .before .loop in
-    let levels = c .before .before .before .before .before .before .before .before .before .before .before .before .before .before .before .before .before .before .before .before .before .levels in
-    let clear = c .before .before .before .before .before .before .before .before .before .before .before .before .clear in
-    let clear2 = c .before .before .before .before .before .before .before .before .clear2 in
-    (record { laid = pre .0 .laid; tables = pre .0 .tables; pins = pre .0 .pins; modules = pre .0 .modules }, loop .inv .0, record { how = loop .inv .1 .how; seen = clear .ensures .0 ∙ levels .kept .1 .1 .1 .1 .1 .1 .1 .1 .1 .1 .0 ∙ loop .inv .1 .seen; dist = levels .kept .1 .1 .1 .1 .1 .1 .1 .1 .1 .1 .1 .0 ∙ loop .inv .1 .dist; off = clear2 .ensures .0 ∙ loop .inv .1 .off }, loop .inv .2)
+mark-row-requires : tie.Need-mark-row-requires
+mark-row-requires c κs = search needs
 
-add-k : tie.Need-add-k Inv-loop μ-loop
-add-k c =
-    let good = c .before .before .before .before .before .before .before .before .before .before .before .before .before .before .before .before .before .before .before .before .before .before .before .before .before .before .before .before .before .before .before .before .before .before .before .before .before .before .before .before .before .before .before .before .before .before .before .before .before .before .before .before .before .before .before .before .before .before .before .before .before .before .before .good in
-    let loop-test = c .before .before .before .before .before .before .before .before .before .before .before .before .before .before .before .before .before .before .before .before .before .before .before .before .before .before .before .before .before .before .before .before .before .before .before .before .before .before .before .loop-test in
-    record { fits = omega (arith, loop-test .taken, good) }
+slice-aggregate-mark-row-2 : tie.Need-slice-aggregate-mark-row-2
+slice-aggregate-mark-row-2 c = search needs
 
-loop-less : tie.Need-loop-less Inv-loop μ-loop
-loop-less c =
-    let loop-test = c .before .before .before .before .before .before .before .before .before .before .before .before .before .before .before .before .before .before .before .before .before .before .before .before .before .before .before .before .before .before .before .before .before .before .before .before .before .before .before .loop-test in
-    omega (arith, loop-test .taken)
+mark-row-requires-2 : tie.Need-mark-row-requires-2
+mark-row-requires-2 c κs = search needs
 
-loop-again : tie.Need-loop-again Inv-loop μ-loop
-loop-again c =
-    let loop = c .before .before .before .before .before .before .before .before .before .before .before .before .before .before .before .before .before .before .before .before .before .before .before .before .before .before .before .before .before .before .before .before .before .before .before .before .before .before .before .before .loop in
-    let levels = c .before .before .before .before .before .before .before .before .before .before .before .before .before .before .before .before .before .before .before .before .before .before .before .before .before .before .before .before .before .before .before .before .before .levels in
-    let clear = c .before .before .before .before .before .before .before .before .before .before .before .before .before .before .before .before .before .before .before .before .before .before .before .before .clear in
-    let clear2 = c .before .before .before .before .before .before .before .before .before .before .before .before .before .before .before .before .before .before .before .before .clear2 in
-    let try-all = c .before .before .before .before .before .before .before .before .before .before .before .try-all in
-    (try-all .ensures .0, record { how = try-all .kept .1 .1 .1 .1 .1 .1 .1 .0 ∙ loop .inv .1 .how; seen = try-all .kept .1 .1 .1 .1 .1 .1 .1 .1 .0 ∙ clear .ensures .0 ∙ levels .kept .1 .1 .1 .1 .1 .1 .1 .1 .1 .1 .0 ∙ loop .inv .1 .seen; dist = try-all .kept .1 .1 .1 .1 .1 .1 .1 .1 .1 .0 ∙ levels .kept .1 .1 .1 .1 .1 .1 .1 .1 .1 .1 .1 .0 ∙ loop .inv .1 .dist; off = try-all .kept .1 .1 .1 .1 .1 .1 .1 .1 .1 .1 .0 ∙ clear2 .ensures .0 ∙ loop .inv .1 .off }, try-all .ensures .1, levels .kept .1 .1 .1 .1 .1 .1 .1 .1 .1 .0 ∙ loop .inv .3)
+slice-aggregate-touch-sent : tie.Need-slice-aggregate-touch-sent
+slice-aggregate-touch-sent c = search needs
 
-same-length : tie.Need-same-length Inv-loop μ-loop
-same-length c =
-    let pre = c .before .before .before .before .before .before .before .before .before .before .before .before .before .before .before .before .before .before .before .before .before .before .before .before .pre in
-    let loop = c .before .loop in
-    loop .inv .3 ∙ sym (pre .0 .queue)
+touch-sent-requires : tie.Need-touch-sent-requires
+touch-sent-requires c κs = search needs
 
-same-length-2 : tie.Need-same-length-2 Inv-loop μ-loop
-same-length-2 c =
-    let pre = c .before .before .before .before .before .before .before .before .before .before .before .before .before .before .before .before .before .before .before .before .before .before .before .before .pre in
-    let loop = c .before .loop in
-    loop .inv .1 .how ∙ sym (pre .1 .how)
+slice-aggregate-climb-on : tie.Need-slice-aggregate-climb-on
+slice-aggregate-climb-on c = search needs
 
-same-length-3 : tie.Need-same-length-3 Inv-loop μ-loop
-same-length-3 c =
-    let pre = c .before .before .before .before .before .before .before .before .before .before .before .before .before .before .before .before .before .before .before .before .before .before .before .before .pre in
-    let loop = c .before .loop in
-    loop .inv .1 .seen ∙ sym (pre .1 .seen)
+slice-aggregate-climb-on-2 : tie.Need-slice-aggregate-climb-on-2
+slice-aggregate-climb-on-2 c = search needs
 
-same-length-4 : tie.Need-same-length-4 Inv-loop μ-loop
-same-length-4 c =
-    let pre = c .before .before .before .before .before .before .before .before .before .before .before .before .before .before .before .before .before .before .before .before .before .before .before .before .pre in
-    let loop = c .before .loop in
-    loop .inv .1 .dist ∙ sym (pre .1 .dist)
+slice-aggregate-climb-on-3 : tie.Need-slice-aggregate-climb-on-3
+slice-aggregate-climb-on-3 c = search needs
 
-same-length-5 : tie.Need-same-length-5 Inv-loop μ-loop
-same-length-5 c =
-    let pre = c .before .before .before .before .before .before .before .before .before .before .before .before .before .before .before .before .before .before .before .before .before .before .before .before .pre in
-    let loop = c .before .loop in
-    loop .inv .1 .off ∙ sym (pre .1 .off)
+slice-aggregate-climb-on-4 : tie.Need-slice-aggregate-climb-on-4
+slice-aggregate-climb-on-4 c = search needs
 
-same-length-6 : tie.Need-same-length-6 Inv-loop μ-loop
-same-length-6 c =
-    let args = c .before .before .before .before .before .before .before .before .before .before .before .before .before .before .before .before .before .before .before .before .before .before .before .before .args in
-    let pre = c .before .before .before .before .before .before .before .before .before .before .before .before .before .before .before .before .before .before .before .before .before .before .before .before .pre in
-    let loop = c .before .loop in
-    loop .inv .0 .sums .len ∙ card-made (args .first .now) (args .mods .now) (args .weight .now) (args .mark .now) (pre .0 .laid) .nets ∙ sym (pre .0 .sums)
+slice-aggregate-climb-on-5 : tie.Need-slice-aggregate-climb-on-5
+slice-aggregate-climb-on-5 c = search needs
 
-same-length-7 : tie.Need-same-length-7 Inv-loop μ-loop
-same-length-7 c =
-    let pre = c .before .before .before .before .before .before .before .before .before .before .before .before .before .before .before .before .before .before .before .before .before .before .before .before .pre in
-    let loop = c .before .loop in
-    loop .inv .0 .flows ∙ sym (pre .3)
+slice-aggregate-climb-on-6 : tie.Need-slice-aggregate-climb-on-6
+slice-aggregate-climb-on-6 c = search needs
 
-returns : tie.Need-returns Inv-loop μ-loop
-returns c =
-    let loop = c .before .loop in
-    loop .inv .0 .fair
+slice-aggregate-climb-on-7 : tie.Need-slice-aggregate-climb-on-7
+slice-aggregate-climb-on-7 c = search needs
 
-same-length-8 : tie.Need-same-length-8 Inv-loop μ-loop
-same-length-8 c =
-    let pre = c .before .before .before .before .before .before .before .before .before .before .before .before .before .before .before .before .before .before .before .before .before .before .before .before .before .before .before .before .before .before .before .before .before .before .before .before .before .pre in
-    let loop = c .before .before .before .before .before .before .before .before .before .before .before .before .before .before .loop in
-    let levels = c .before .before .before .before .before .before .before .levels in
-    levels .kept .1 .1 .1 .1 .1 .1 .1 .1 .1 .0 ∙ loop .inv .3 ∙ sym (pre .0 .queue)
+slice-aggregate-climb-on-8 : tie.Need-slice-aggregate-climb-on-8
+slice-aggregate-climb-on-8 c = search needs
 
-same-length-9 : tie.Need-same-length-9 Inv-loop μ-loop
-same-length-9 c =
-    let pre = c .before .before .before .before .before .before .before .before .before .before .before .before .before .before .before .before .before .before .before .before .before .before .before .before .before .before .before .before .before .before .before .before .before .before .before .before .before .pre in
-    let loop = c .before .before .before .before .before .before .before .before .before .before .before .before .before .before .loop in
-    loop .inv .1 .how ∙ sym (pre .1 .how)
+slice-aggregate-climb-on-9 : tie.Need-slice-aggregate-climb-on-9
+slice-aggregate-climb-on-9 c = search needs
 
-same-length-10 : tie.Need-same-length-10 Inv-loop μ-loop
-same-length-10 c =
-    let pre = c .before .before .before .before .before .before .before .before .before .before .before .before .before .before .before .before .before .before .before .before .before .before .before .before .before .before .before .before .before .before .before .before .before .before .before .before .before .pre in
-    let loop = c .before .before .before .before .before .before .before .before .before .before .before .before .before .before .loop in
-    let levels = c .before .before .before .before .before .before .before .levels in
-    levels .kept .1 .1 .1 .1 .1 .1 .1 .1 .1 .1 .0 ∙ loop .inv .1 .seen ∙ sym (pre .1 .seen)
+climb-on-requires : tie.Need-climb-on-requires
+climb-on-requires c κs = (c .before .before .before .before .before .before .before .before .before .before .before .before .before .before .before .before .before .before .before .before .before .before .before .before .before .before .before .before .before .before .before .before .before .before .before .before .before .before .before .before .before .before .before .before .before .before .before .before .before .before .before .pre .0, steady-of (c .before .before .before .before .before .before .before .before .before .before .before .before .before .before .before .before .before .before .before .before .before .before .before .before .before .before .before .before .before .before .before .before .before .before .before .before .before .before .before .before .before .before .before .before .before .before .before .before .before .before .before .args .first .now) (c .before .before .before .before .before .before .before .before .before .before .before .before .before .before .before .before .before .before .before .before .before .before .before .before .before .before .before .before .before .before .before .before .before .before .before .before .before .before .before .before .before .before .before .before .before .before .before .before .before .before .before .args .mods .now) (c .before .before .before .before .before .before .before .before .before .before .before .before .before .before .before .before .before .before .before .before .before .before .before .before .before .before .before .before .before .before .before .before .before .before .before .before .before .before .before .before .before .before .before .before .before .before .before .before .before .before .before .args .weight .now) (c .before .before .before .before .before .before .before .before .before .before .before .before .before .before .before .before .before .before .before .before .before .before .before .before .before .before .before .before .before .before .before .before .before .before .before .before .before .before .before .before .before .before .before .before .before .before .before .before .before .before .before .args .mark .now) (c .before .before .before .before .before .before .before .before .before .before .before .before .before .before .before .before .before .before .before .before .before .before .before .before .before .before .before .before .before .before .before .before .before .before .before .before .before .before .before .before .before .before .before .before .before .before .before .before .before .before .before .pre .0 .laid) (λ e l. omega (arith, c .before .before .before .before .before .before .before .before .before .before .before .before .before .before .before .before .before .before .before .before .before .before .before .before .before .before .before .before .before .before .before .before .before .before .before .before .before .before .before .before .before .before .before .before .before .before .before .before .shared-slice-known3 .given e)) (c .before .before .before .before .before .before .before .before .before .before .before .before .before .before .before .before .before .before .before .before .before .before .before .before .before .before .before .before .before .before .before .before .before .before .before .before .before .before .before .before .before .before .before .before .before .before .before .before .before .before .before .args .flow .now) (c .before .before .before .before .before .before .before .before .before .before .before .before .before .before .before .before .before .before .before .before .before .before .before .before .before .before .before .before .before .before .before .before .before .before .before .before .before .before .before .before .before .before .before .before .before .before .before .before .before .before .before .pre .4) (c .before .before .before .before .before .before .before .before .before .before .before .before .before .before .before .before .before .before .before .before .before .before .before .before .before .before .before .before .before .before .before .before .before .before .before .before .before .before .before .before .before .before .before .before .before .before .before .before .before .before .before .pre .5) _ (c .before .before .before .before .before .before .before .before .before .before .before .before .before .before .before .before .before .before .before .before .before .before .before .before .before .before .before .before .before .before .before .before .before .before .before .before .net-sums .kept .1 .1 .0 ∙ c .before .before .before .before .before .before .before .before .before .before .before .before .before .before .before .before .before .before .before .before .before .before .before .before .before .before .before .before .before .before .before .before .before .before .before .before .before .before .before .before .before .before .before .before .before .before .before .before .before .before .before .pre .3) (record { sum = λ e l. c .before .before .before .before .before .before .before .before .before .before .before .before .before .before .before .before .before .before .before .before .before .before .before .before .before .before .before .before .before .before .before .before .before .before .before .before .net-sums .ensures .sum e (omega (arith, c .before .before .before .before .before .before .before .before .before .before .before .before .before .before .before .before .before .before .before .before .before .before .before .before .before .before .before .before .before .before .before .before .before .before .before .before .net-sums .kept .1 .1 .0)) }), record { how = c .before .before .before .before .before .before .before .before .before .before .before .before .before .before .before .before .before .before .before .before .before .before .before .before .before .before .before .before .before .before .before .before .forget .kept .0 ∙ c .before .before .before .before .before .before .before .before .before .before .before .before .before .before .before .before .before .before .before .before .before .before .before .before .before .before .before .before .before .before .before .before .before .before .before .before .before .before .before .before .before .before .before .before .before .before .before .before .before .before .before .pre .2 .how; seen = c .before .before .before .before .before .before .before .before .before .before .before .before .before .before .before .before .before .before .before .before .before .before .before .before .before .before .before .before .before .before .before .before .before .before .before .before .before .before .before .before .before .before .before .before .before .before .before .before .before .before .before .pre .2 .seen; dist = c .before .before .before .before .before .before .before .before .before .before .before .before .before .before .before .before .before .before .before .before .before .before .before .before .before .before .before .before .before .before .before .before .before .before .before .before .before .before .before .before .before .before .before .before .before .before .before .before .before .before .before .pre .2 .dist; off = c .before .before .before .before .before .before .before .before .before .before .before .before .before .before .before .before .before .before .before .before .before .before .before .before .before .before .before .before .before .before .before .before .before .before .before .before .before .before .before .before .before .before .before .before .before .before .before .before .before .before .before .pre .2 .off }, c .before .before .before .before .before .before .before .before .before .before .before .before .before .before .before .before .before .before .before .before .before .before .before .before .before .before .before .before .before .before .before .before .forget .ensures, c .before .before .before .before .before .before .before .before .before .before .before .before .before .before .before .before .before .before .before .before .before .before .before .before .before .before .before .note-all .kept .1 .1 .1 .0, c .before .before .before .before .before .before .before .before .before .before .before .before .before .before .before .before .before .before .before .before .before .before .before .before .before .before .before .note-all .kept .1 .1 .1 .1 .0, refl, refl, c .before .before .before .before .before .before .before .before .before .before .before .before .before .before .before .before .touch-sent .kept .1 .0, c .before .before .before .before .before .before .before .before .before .before .before .before .before .before .before .before .before .before .before .before .before .before .before .before .before .before .before .before .before .before .before .before .before .before .before .before .before .before .before .before .before .before .before .before .before .before .before .before .before .before .before .pre .1, c .before .before .before .before .before .before .before .before .before .before .before .before .before .before .before .before .before .before .before .before .before .before .before .before .before .before .before .before .before .before .before .before .before .before .before .before .before .before .before .before .before .before .before .before .before .before .before .before .before .before .before .pre .1, c .before .before .before .before .before .before .before .before .before .before .before .before .before .before .before .before .before .before .before .before .before .before .before .mark-row .kept .1 .1 .0, c .before .before .before .before .before .before .before .before .before .before .before .before .before .before .before .before .before .before .before .before .mark-row2 .kept .1 .1 .0)
 
-same-length-11 : tie.Need-same-length-11 Inv-loop μ-loop
-same-length-11 c =
-    let pre = c .before .before .before .before .before .before .before .before .before .before .before .before .before .before .before .before .before .before .before .before .before .before .before .before .before .before .before .before .before .before .before .before .before .before .before .before .before .pre in
-    let loop = c .before .before .before .before .before .before .before .before .before .before .before .before .before .before .loop in
-    let levels = c .before .before .before .before .before .before .before .levels in
-    levels .kept .1 .1 .1 .1 .1 .1 .1 .1 .1 .1 .1 .0 ∙ loop .inv .1 .dist ∙ sym (pre .1 .dist)
+same-length : tie.Need-same-length
+same-length c = c .before .before .before .before .before .before .before .before .before .before .before .before .before .before .before .before .climb-on .kept .1 .1 .1 .1 .1 .1 .1 .1 .1 .1 .1 .1 .1 .1 .1 .1 .0 ∙ c .before .before .before .before .before .before .before .before .before .before .before .before .before .before .before .before .before .before .before .before .before .before .before .before .before .before .before .before .before .before .before .before .before .before .before .before .before .before .before .before .before .before .before .before .before .before .before .before .before .forget .kept .0
 
-same-length-12 : tie.Need-same-length-12 Inv-loop μ-loop
-same-length-12 c =
-    let pre = c .before .before .before .before .before .before .before .before .before .before .before .before .before .before .before .before .before .before .before .before .before .before .before .before .before .before .before .before .before .before .before .before .before .before .before .before .before .pre in
-    let loop = c .before .before .before .before .before .before .before .before .before .before .before .before .before .before .loop in
-    loop .inv .1 .off ∙ sym (pre .1 .off)
+same-length-2 : tie.Need-same-length-2
+same-length-2 c = search needs
 
-same-length-13 : tie.Need-same-length-13 Inv-loop μ-loop
-same-length-13 c =
-    let args = c .before .before .before .before .before .before .before .before .before .before .before .before .before .before .before .before .before .before .before .before .before .before .before .before .before .before .before .before .before .before .before .before .before .before .before .before .before .args in
-    let pre = c .before .before .before .before .before .before .before .before .before .before .before .before .before .before .before .before .before .before .before .before .before .before .before .before .before .before .before .before .before .before .before .before .before .before .before .before .before .pre in
-    let loop = c .before .before .before .before .before .before .before .before .before .before .before .before .before .before .loop in
-    loop .inv .0 .sums .len ∙ card-made (args .first .now) (args .mods .now) (args .weight .now) (args .mark .now) (pre .0 .laid) .nets ∙ sym (pre .0 .sums)
+same-length-3 : tie.Need-same-length-3
+same-length-3 c = search needs
 
-same-length-14 : tie.Need-same-length-14 Inv-loop μ-loop
-same-length-14 c =
-    let pre = c .before .before .before .before .before .before .before .before .before .before .before .before .before .before .before .before .before .before .before .before .before .before .before .before .before .before .before .before .before .before .before .before .before .before .before .before .before .pre in
-    let loop = c .before .before .before .before .before .before .before .before .before .before .before .before .before .before .loop in
-    loop .inv .0 .flows ∙ sym (pre .3)
+same-length-4 : tie.Need-same-length-4
+same-length-4 c = search needs
 
-returns-2 : tie.Need-returns-2 Inv-loop μ-loop
-returns-2 c =
-    let loop = c .before .before .before .before .before .before .before .before .before .before .before .before .before .before .loop in
-    loop .inv .0 .fair
+same-length-5 : tie.Need-same-length-5
+same-length-5 c = c .before .before .before .before .before .before .before .before .before .before .before .before .before .before .before .before .climb-on .kept .1 .1 .1 .1 .1 .1 .1 .1 .1 .1 .1 .1 .1 .1 .1 .1 .1 .1 .1 .1 .0 ∙ c .before .before .before .before .before .before .before .before .before .before .before .before .before .before .before .before .before .before .before .before .before .before .before .before .before .before .before .before .before .before .before .before .before .before .before .before .before .before .before .before .before .before .before .before .before .before .before .before .before .before .before .before .before .net-sums .kept .1 .1 .0
+
+same-length-6 : tie.Need-same-length-6
+same-length-6 c = search needs
+
+returns : tie.Need-returns
+returns c = search needs
 
 pub climb-spec : {M : Type 1} → statement M
 climb-spec =
     tie.close
     (tie.spec
-    Inv-loop
-    μ-loop
     net-sums-requires
     forget-requires
-    loop-holds
-    levels-requires
-    clear-requires
-    clear-requires-2
-    try-all-requires
-    add-k
-    loop-less
-    loop-again
+    slice-aggregate-note-all
+    slice-aggregate-note-all-2
+    note-all-requires
+    slice-aggregate-mark-row
+    mark-row-requires
+    slice-aggregate-mark-row-2
+    mark-row-requires-2
+    slice-aggregate-touch-sent
+    touch-sent-requires
+    slice-aggregate-climb-on
+    slice-aggregate-climb-on-2
+    slice-aggregate-climb-on-3
+    slice-aggregate-climb-on-4
+    slice-aggregate-climb-on-5
+    slice-aggregate-climb-on-6
+    slice-aggregate-climb-on-7
+    slice-aggregate-climb-on-8
+    slice-aggregate-climb-on-9
+    climb-on-requires
     same-length
     same-length-2
     same-length-3
     same-length-4
     same-length-5
     same-length-6
-    same-length-7
-    returns
-    same-length-8
-    same-length-9
-    same-length-10
-    same-length-11
-    same-length-12
-    same-length-13
-    same-length-14
-    returns-2)
+    returns)

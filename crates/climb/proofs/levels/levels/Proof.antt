@@ -1,100 +1,80 @@
--- `climb::levels::levels` is safe and ends: the queue names modules, and its head passes each place once. Assumes nothing.
-use mathlib.Core.Logic.{⊎-elim}
-use mathlib.Core.Path.{_≡_, sym, _∙_}
-use Prim.Native.Nat.{_-_}
-use native.Mathlib.Omega.{arith}
+-- `climb::levels::levels` is safe and ends: what it works in keeps its length. Assumes nothing.
 use lib.ListN.{length}
+use mathlib.Core.Path.{_≡_}
+use Prim.Native.Nat.{_-_}
 use borrow.Author.Needs.{needs}
-use Rattle.climb.specs.Climb.{Queued}
 use Rattle.climb.proofs.levels.levels.Statement.{statement}
 use Rattle.climb.proofs.levels.levels.Tie as tie
 
 abbrev Inv-loop : tie.InvT-loop
-Inv-loop first mods weight nets at pins mark sums flow queue₀ seen₀ dist₀ all left₀ tail₀ head₀ queue seen dist left tail head =
-    (length queue ≡ length mark) × (length seen ≡ length weight) × (length dist ≡ length mark) × Queued (length mark) tail queue
+Inv-loop first mods weight flow wires ends sends roomy makers meters fullat₀ partat₀ dist₀ front₀ reached₀ fulls₀ parts₀ d₀ fullat partat dist front reached fulls parts d =
+    (length front ≡ 4) × (length reached ≡ 4) × (length fulls ≡ 8) × (length parts ≡ 8) × (length fullat ≡ length fullat₀) × (length partat ≡ length partat₀) × (length dist ≡ length dist₀)
 
 abbrev μ-loop : tie.MeasureT-loop
-μ-loop first mods weight nets at pins mark sums flow queue₀ seen₀ dist₀ all left₀ tail₀ head₀ queue seen dist left tail head =
-    length mark - head
+μ-loop first mods weight flow wires ends sends roomy makers meters fullat₀ partat₀ dist₀ front₀ reached₀ fulls₀ parts₀ d₀ fullat partat dist front reached fulls parts d =
+    257 - d
+
+forget-requires : tie.Need-forget-requires Inv-loop μ-loop
+forget-requires c κs = search needs
+
+slice-aggregate-settle : tie.Need-slice-aggregate-settle Inv-loop μ-loop
+slice-aggregate-settle c = search needs
+
+slice-aggregate-settle-2 : tie.Need-slice-aggregate-settle-2 Inv-loop μ-loop
+slice-aggregate-settle-2 c = search needs
+
+settle-requires : tie.Need-settle-requires Inv-loop μ-loop
+settle-requires c κs = search needs
 
 clear-requires : tie.Need-clear-requires Inv-loop μ-loop
 clear-requires c κs = search needs
 
-meters-requires : tie.Need-meters-requires Inv-loop μ-loop
-meters-requires c κs = search needs
-
-makers-requires : tie.Need-makers-requires Inv-loop μ-loop
-makers-requires c κs =
-    let pre = c .before .before .before .before .before .before .before .before .before .before .before .before .before .before .before .before .before .before .pre in
-    (pre .4, pre .5, pre .0 .modules)
+clear-requires-2 : tie.Need-clear-requires-2 Inv-loop μ-loop
+clear-requires-2 c κs = search needs
 
 loop-holds : tie.Need-loop-holds Inv-loop μ-loop
-loop-holds c =
-    let pre = c .before .before .before .before .before .before .before .before .before .before .before .before .before .before .before .before .before .before .before .before .before .before .before .pre in
-    let clear = c .before .before .before .before .before .before .before .before .before .before .clear in
-    let makers = c .before .before .before .before .makers in
-    (makers .kept .1 .0 ∙ pre .5, clear .ensures .0 ∙ pre .3, makers .kept .1 .1 .0 ∙ pre .4, makers .ensures)
+loop-holds c = search needs
 
-mul-wide : tie.Need-mul-wide Inv-loop μ-loop
-mul-wide c =
-    let pre = c .before .before .before .before .before .before .before .before .before .before .before .before .before .before .before .before .before .before .before .before .before .before .before .before .before .before .pre in
-    let loop = c .before .before .loop in
-    record { fits = omega (arith, loop .inv .0, loop .inv .3 .fits, c .before .loop-test .taken, pre .0 .modules) }
+slice-aggregate-level : tie.Need-slice-aggregate-level Inv-loop μ-loop
+slice-aggregate-level c = search needs
 
-slice-read-wide : tie.Need-slice-read-wide Inv-loop μ-loop
-slice-read-wide c =
-    let loop = c .before .before .before .loop in
-    let loop-test = c .before .before .loop-test in
-    omega (arith, loop .inv .3 .fits, loop-test .taken)
+slice-aggregate-level-2 : tie.Need-slice-aggregate-level-2 Inv-loop μ-loop
+slice-aggregate-level-2 c = search needs
 
-wide-requires : tie.Need-wide-requires Inv-loop μ-loop
-wide-requires c κs = search needs
+slice-aggregate-level-3 : tie.Need-slice-aggregate-level-3 Inv-loop μ-loop
+slice-aggregate-level-3 c = search needs
 
-shared-slice-read-if2 : tie.Need-shared-slice-read-if2 Inv-loop μ-loop
-shared-slice-read-if2 c =
-    let loop = c .before .before .before .before .before .loop in
-    let loop-test = c .before .before .before .before .loop-test in
-    omega (arith, c .before .wide .ensures, loop .inv .3 .names (loop .head) (loop-test .taken))
+slice-aggregate-level-4 : tie.Need-slice-aggregate-level-4 Inv-loop μ-loop
+slice-aggregate-level-4 c = search needs
 
-sub-left : tie.Need-sub-left Inv-loop μ-loop
-sub-left c = search needs
+level-requires : tie.Need-level-requires Inv-loop μ-loop
+level-requires c κs = let pre = c .before .before .before .before .before .before .before .before .before .before .before .before .before .before .before .before .before .before .before .before .before .before .before .before .before .before .before .before .before .before .before .before .before .before .before .before .before .before .before .before .before .pre in
+    let loop = c .before .before .before .before .before .before .before .before .loop in
+    (pre .0, pre .1, pre .2, pre .3, pre .4, pre .5, pre .7, loop .inv .0, loop .inv .1, loop .inv .2, loop .inv .3)
 
-approach-all-requires : tie.Need-approach-all-requires Inv-loop μ-loop
-approach-all-requires c κs =
-    let pre = c .before .before .before .before .before .before .before .before .before .before .before .before .before .before .before .before .before .before .before .before .before .before .before .before .before .before .before .before .before .before .before .before .before .pre in
-    let loop = c .before .before .before .before .before .before .before .before .before .loop in
-    let loop-test = c .before .before .before .before .before .before .before .before .loop-test in
-    let wide = c .before .before .before .before .before .wide in
-    (pre .0, omega (arith, wide .ensures, loop .inv .3 .names (loop .head) (loop-test .taken)), pre .1, pre .2, loop .inv .1, loop .inv .2, loop .inv .3)
-
-add-head : tie.Need-add-head Inv-loop μ-loop
-add-head c = search needs
+after-requires : tie.Need-after-requires Inv-loop μ-loop
+after-requires c κs = search needs
 
 loop-less : tie.Need-loop-less Inv-loop μ-loop
-loop-less c =
-    let loop = c .before .before .before .before .before .before .loop in
-    let loop-test = c .before .before .before .before .before .loop-test in
-    omega (arith, loop .inv .0, loop .inv .3 .fits, loop-test .taken)
+loop-less c = search needs
 
 loop-again : tie.Need-loop-again Inv-loop μ-loop
-loop-again c =
-    let loop = c .before .before .before .before .before .before .loop in
-    ⊎-elim (λ w. rw (w .1, w .2, w .3, w .5) (loop .inv)) (λ w. rw (w .11, w .12, w .13, w .15) (omega (arith, w .4 .kept .1 .1 .1 .1 .1 .1 .1 .1 .1 .1 .1 .0, loop .inv .0), omega (arith, w .4 .kept .1 .1 .1 .1 .1 .1 .1 .1 .1 .1 .1 .1 .0, loop .inv .1), omega (arith, w .4 .kept .1 .1 .1 .1 .1 .1 .1 .1 .1 .1 .1 .1 .1 .0, loop .inv .2), w .4 .ensures)) (c .if2 .came)
+loop-again c = search needs
+
+slice-aggregate-meets : tie.Need-slice-aggregate-meets Inv-loop μ-loop
+slice-aggregate-meets c = search needs
+
+meets-requires : tie.Need-meets-requires Inv-loop μ-loop
+meets-requires c κs = search needs
 
 same-length : tie.Need-same-length Inv-loop μ-loop
-same-length c =
-    let pre = c .before .before .before .before .before .before .before .before .before .before .before .before .before .before .before .before .before .before .before .before .before .before .before .before .before .pre in
-    c .before .loop .inv .0 ∙ sym (pre .5)
+same-length c = search needs
 
 same-length-2 : tie.Need-same-length-2 Inv-loop μ-loop
-same-length-2 c =
-    let pre = c .before .before .before .before .before .before .before .before .before .before .before .before .before .before .before .before .before .before .before .before .before .before .before .before .before .pre in
-    c .before .loop .inv .1 ∙ sym (pre .3)
+same-length-2 c = search needs
 
 same-length-3 : tie.Need-same-length-3 Inv-loop μ-loop
-same-length-3 c =
-    let pre = c .before .before .before .before .before .before .before .before .before .before .before .before .before .before .before .before .before .before .before .before .before .before .before .before .before .pre in
-    c .before .loop .inv .2 ∙ sym (pre .4)
+same-length-3 c = search needs
 
 returns : tie.Need-returns Inv-loop μ-loop
 returns c = search needs
@@ -105,19 +85,23 @@ levels-spec =
     (tie.spec
     Inv-loop
     μ-loop
+    forget-requires
+    slice-aggregate-settle
+    slice-aggregate-settle-2
+    settle-requires
     clear-requires
-    meters-requires
-    makers-requires
+    clear-requires-2
     loop-holds
-    mul-wide
-    slice-read-wide
-    wide-requires
-    shared-slice-read-if2
-    sub-left
-    approach-all-requires
-    add-head
+    slice-aggregate-level
+    slice-aggregate-level-2
+    slice-aggregate-level-3
+    slice-aggregate-level-4
+    level-requires
+    after-requires
     loop-less
     loop-again
+    slice-aggregate-meets
+    meets-requires
     same-length
     same-length-2
     same-length-3

@@ -1,49 +1,43 @@
 -- `split::core::lift` meets its contract: the work is as long as the climb asks. Assumes nothing.
-use mathlib.Core.Path.{sym}
 use lib.Seq.{length-take-le}
+use mathlib.Core.Path.{sym}
 use borrow.Author.Needs.{needs}
 use native.Mathlib.Omega.{arith}
 use Rattle.split.proofs.core.lift.Statement.{statement}
 use Rattle.split.proofs.core.lift.Tie as tie
 
-array-borrow-prefix-queue : tie.Need-array-borrow-prefix-queue
-array-borrow-prefix-queue c = search needs
+array-borrow-prefix-how : tie.Need-array-borrow-prefix-how
+array-borrow-prefix-how c = search needs
 
 slice-aggregate-climb : tie.Need-slice-aggregate-climb
 slice-aggregate-climb c = sym (length-take-le _ _ (c .before .before .before .before .before .before .before .before .pre .0 .few-modules))
 
-array-borrow-prefix-how : tie.Need-array-borrow-prefix-how
-array-borrow-prefix-how c = search needs
-
-slice-aggregate-climb-2 : tie.Need-slice-aggregate-climb-2
-slice-aggregate-climb-2 c = sym (length-take-le _ _ (c .before .before .before .before .before .before .before .before .before .pre .0 .few-modules))
-
 array-borrow-prefix-seen : tie.Need-array-borrow-prefix-seen
 array-borrow-prefix-seen c = search needs
 
-slice-aggregate-climb-3 : tie.Need-slice-aggregate-climb-3
-slice-aggregate-climb-3 c = sym (length-take-le _ _ (c .before .before .before .before .before .before .before .before .before .before .pre .0 .few-nets))
+slice-aggregate-climb-2 : tie.Need-slice-aggregate-climb-2
+slice-aggregate-climb-2 c = sym (length-take-le _ _ (c .before .before .before .before .before .before .before .before .before .pre .0 .few-nets))
 
 array-borrow-prefix-dist : tie.Need-array-borrow-prefix-dist
 array-borrow-prefix-dist c = search needs
 
-slice-aggregate-climb-4 : tie.Need-slice-aggregate-climb-4
-slice-aggregate-climb-4 c = sym (length-take-le _ _ (c .before .before .before .before .before .before .before .before .before .before .before .pre .0 .few-modules))
+slice-aggregate-climb-3 : tie.Need-slice-aggregate-climb-3
+slice-aggregate-climb-3 c = sym (length-take-le _ _ (c .before .before .before .before .before .before .before .before .before .before .pre .0 .few-modules))
 
 array-borrow-prefix-off : tie.Need-array-borrow-prefix-off
 array-borrow-prefix-off c = search needs
 
-slice-aggregate-climb-5 : tie.Need-slice-aggregate-climb-5
-slice-aggregate-climb-5 c = sym (length-take-le _ _ (c .before .before .before .before .before .before .before .before .before .before .before .before .pre .0 .few-modules))
+slice-aggregate-climb-4 : tie.Need-slice-aggregate-climb-4
+slice-aggregate-climb-4 c = sym (length-take-le _ _ (c .before .before .before .before .before .before .before .before .before .before .before .pre .0 .few-modules))
 
 array-borrow-prefix-sums : tie.Need-array-borrow-prefix-sums
 array-borrow-prefix-sums c = search needs
 
-slice-aggregate-climb-6 : tie.Need-slice-aggregate-climb-6
-slice-aggregate-climb-6 c = sym (length-take-le _ _ (c .before .before .before .before .before .before .before .before .before .before .before .before .before .pre .0 .few-nets))
+slice-aggregate-climb-5 : tie.Need-slice-aggregate-climb-5
+slice-aggregate-climb-5 c = sym (length-take-le _ _ (c .before .before .before .before .before .before .before .before .before .before .before .before .pre .0 .few-nets))
 
 climb-requires : tie.Need-climb-requires
-climb-requires c κs = let p = c .before .before .before .before .before .before .before .before .before .before .before .before .before .before .pre in (record { laid = p .0 .laid; tables = p .1; pins = omega (arith, p .0 .few-pins); modules = omega (arith, p .0 .few-modules); queue = length-take-le _ _ (p .0 .few-modules); how = length-take-le _ _ (p .0 .few-modules); seen = length-take-le _ _ (p .0 .few-nets); sums = length-take-le _ _ (p .0 .few-nets) }, record { how = length-take-le _ _ (p .0 .few-modules); seen = length-take-le _ _ (p .0 .few-nets); dist = length-take-le _ _ (p .0 .few-modules); off = length-take-le _ _ (p .0 .few-modules) }, p .2, p .3)
+climb-requires c κs = (record { laid = c .before .before .before .before .before .before .before .before .before .before .before .before .before .pre .0 .laid; tables = c .before .before .before .before .before .before .before .before .before .before .before .before .before .pre .1; pins = omega (arith, c .before .before .before .before .before .before .before .before .before .before .before .before .before .pre .0 .few-pins); modules = omega (arith, c .before .before .before .before .before .before .before .before .before .before .before .before .before .pre .0 .few-modules) }, c .before .before .before .before .before .before .before .before .before .before .before .before .before .pre .0 .few-nets, record { how = length-take-le _ _ (c .before .before .before .before .before .before .before .before .before .before .before .before .before .pre .0 .few-modules); seen = length-take-le _ _ (c .before .before .before .before .before .before .before .before .before .before .before .before .before .pre .0 .few-nets); dist = length-take-le _ _ (c .before .before .before .before .before .before .before .before .before .before .before .before .before .pre .0 .few-modules); off = length-take-le _ _ (c .before .before .before .before .before .before .before .before .before .before .before .before .before .pre .0 .few-modules) }, length-take-le _ _ (c .before .before .before .before .before .before .before .before .before .before .before .before .before .pre .0 .few-nets), c .before .before .before .before .before .before .before .before .before .before .before .before .before .pre .2, c .before .before .before .before .before .before .before .before .before .before .before .before .before .pre .3)
 
 same-length : tie.Need-same-length
 same-length c = search needs
@@ -55,18 +49,16 @@ pub lift-spec : {M : Type 1} → statement M
 lift-spec =
     tie.close
     (tie.spec
-    array-borrow-prefix-queue
-    slice-aggregate-climb
     array-borrow-prefix-how
-    slice-aggregate-climb-2
+    slice-aggregate-climb
     array-borrow-prefix-seen
-    slice-aggregate-climb-3
+    slice-aggregate-climb-2
     array-borrow-prefix-dist
-    slice-aggregate-climb-4
+    slice-aggregate-climb-3
     array-borrow-prefix-off
-    slice-aggregate-climb-5
+    slice-aggregate-climb-4
     array-borrow-prefix-sums
-    slice-aggregate-climb-6
+    slice-aggregate-climb-5
     climb-requires
     same-length
     returns)

@@ -1,0 +1,74 @@
+-- `climb::levels::gather` is safe and ends: what it works in keeps its length. Assumes nothing.
+use lib.ListN.{length}
+use mathlib.Core.Path.{_≡_}
+use Prim.Native.Nat.{_-_}
+use borrow.Author.Needs.{needs}
+use Rattle.climb.proofs.levels.gather.Statement.{statement}
+use Rattle.climb.proofs.levels.gather.Tie as tie
+
+abbrev Inv-loop : tie.InvT-loop
+Inv-loop wires sends front meters sent₀ met₀ w₀ sent met w =
+    (length sent ≡ 8) × (length met ≡ 8)
+
+abbrev μ-loop : tie.MeasureT-loop
+μ-loop wires sends front meters sent₀ met₀ w₀ sent met w =
+    4 - w
+
+loop-holds : tie.Need-loop-holds Inv-loop μ-loop
+loop-holds c = search needs
+
+mul-members : tie.Need-mul-members Inv-loop μ-loop
+mul-members c = search needs
+
+shared-slice-read-members : tie.Need-shared-slice-read-members Inv-loop μ-loop
+shared-slice-read-members c = search needs
+
+mul-members-2 : tie.Need-mul-members-2 Inv-loop μ-loop
+mul-members-2 c = search needs
+
+shared-slice-read-members-2 : tie.Need-shared-slice-read-members-2 Inv-loop μ-loop
+shared-slice-read-members-2 c = search needs
+
+join-modules-requires : tie.Need-join-modules-requires Inv-loop μ-loop
+join-modules-requires c κs = search needs
+
+join-modules-requires-2 : tie.Need-join-modules-requires-2 Inv-loop μ-loop
+join-modules-requires-2 c κs = search needs
+
+add-w : tie.Need-add-w Inv-loop μ-loop
+add-w c = search needs
+
+loop-less : tie.Need-loop-less Inv-loop μ-loop
+loop-less c = search needs
+
+loop-again : tie.Need-loop-again Inv-loop μ-loop
+loop-again c = search needs
+
+same-length : tie.Need-same-length Inv-loop μ-loop
+same-length c = search needs
+
+same-length-2 : tie.Need-same-length-2 Inv-loop μ-loop
+same-length-2 c = search needs
+
+returns : tie.Need-returns Inv-loop μ-loop
+returns c = search needs
+
+pub gather-spec : {M : Type 1} → statement M
+gather-spec =
+    tie.close
+    (tie.spec
+    Inv-loop
+    μ-loop
+    loop-holds
+    mul-members
+    shared-slice-read-members
+    mul-members-2
+    shared-slice-read-members-2
+    join-modules-requires
+    join-modules-requires-2
+    add-w
+    loop-less
+    loop-again
+    same-length
+    same-length-2
+    returns)

@@ -1,0 +1,57 @@
+-- `climb::sets::meets` is safe and ends: what it works in keeps its length. Assumes nothing.
+use lib.ListN.{length}
+use Prim.Native.Nat.{_-_, _≤_}
+use borrow.Author.Needs.{needs}
+use Rattle.climb.proofs.sets.meets.Statement.{statement}
+use Rattle.climb.proofs.sets.meets.Tie as tie
+
+abbrev Inv-loop : tie.InvT-loop
+Inv-loop row other inside all₀ k₀ all k =
+    k ≤ length row
+
+abbrev μ-loop : tie.MeasureT-loop
+μ-loop row other inside all₀ k₀ all k =
+    length row - k
+
+loop-holds : tie.Need-loop-holds Inv-loop μ-loop
+loop-holds c = search needs
+
+mul-o : tie.Need-mul-o Inv-loop μ-loop
+mul-o c = search needs
+
+shared-slice-read-o : tie.Need-shared-slice-read-o Inv-loop μ-loop
+shared-slice-read-o c = search needs
+
+mul-all : tie.Need-mul-all Inv-loop μ-loop
+mul-all c = search needs
+
+shared-slice-read-all : tie.Need-shared-slice-read-all Inv-loop μ-loop
+shared-slice-read-all c = search needs
+
+add-k : tie.Need-add-k Inv-loop μ-loop
+add-k c = search needs
+
+loop-less : tie.Need-loop-less Inv-loop μ-loop
+loop-less c = search needs
+
+loop-again : tie.Need-loop-again Inv-loop μ-loop
+loop-again c = search needs
+
+returns : tie.Need-returns Inv-loop μ-loop
+returns c = search needs
+
+pub meets-spec : {M : Type 1} → statement M
+meets-spec =
+    tie.close
+    (tie.spec
+    Inv-loop
+    μ-loop
+    loop-holds
+    mul-o
+    shared-slice-read-o
+    mul-all
+    shared-slice-read-all
+    add-k
+    loop-less
+    loop-again
+    returns)
