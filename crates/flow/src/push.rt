@@ -139,7 +139,7 @@ pub fn push_from(
     flow: &mut [i32],
 ) -> Narrow
     requires { ⌜ MayCarry (now mods) (now weight) (now nets) (now mark) (now how) (now sums) (now flow) z ⌝ }
-    ensures { λ _. ⌜ Carried (now (mods .entry)) (now (weight .entry)) (now (nets .entry)) (now (mark .entry)) (now (how .entry)) (now (sums .entry)) (now (flow .entry)) z (now (sums .exit)) (now (flow .exit)) ⌝ }
+    ensures { λ r. ⌜ (r .room ≡ wayRoom (now (mods .entry)) (now (weight .entry)) (now (nets .entry)) (now (mark .entry)) (now (how .entry)) (now (sums .entry)) (now (flow .entry)) (suc (length (now (mark .entry)))) z) × Carried (now (mods .entry)) (now (weight .entry)) (now (nets .entry)) (now (mark .entry)) (now (how .entry)) (now (sums .entry)) (now (flow .entry)) z (now (sums .exit)) (now (flow .exit)) ⌝ }
 {
     let n = way_room(mods, weight, nets, mark, how, &*sums, &*flow, z);
     let d = n.room;

@@ -28,7 +28,7 @@ returns : tie.Need-returns
 returns c =
     let args = c .before .before .before .before .before .before .before .before .before .before .before .before .before .before .before .before .args in
     let way-room = c .before .before .before .before .before .before .before .way-room in
-    λ k f r s. carry-some k (args .mods .now) (args .weight .now) (args .nets .now) (args .mark .now) (args .how .now) f (args .sums .now) (args .flow .now) s (args .z) r (way-room .result .room) (way-room .ensures) _ _ (c .before .before .before .push-way .ensures)
+    (way-room .ensures, λ k f r s. carry-some k (args .mods .now) (args .weight .now) (args .nets .now) (args .mark .now) (args .how .now) f (args .sums .now) (args .flow .now) s (args .z) r (way-room .result .room) (way-room .ensures) _ _ (c .before .before .before .push-way .ensures))
 
 same-length-3 : tie.Need-same-length-3
 same-length-3 c = search needs
@@ -40,7 +40,7 @@ returns-2 : tie.Need-returns-2
 returns-2 c =
     let args = c .before .before .before .before .before .before .before .before .before .before .args in
     let way-room = c .before .way-room in
-    λ k f r s. carry-none k (args .mods .now) (args .weight .now) (args .nets .now) (args .mark .now) (args .how .now) f (args .sums .now) (args .flow .now) s (args .z) r (way-room .result .room) (way-room .ensures) (λ l. absurd (omega (arith, c .if1 .left)))
+    (way-room .ensures, λ k f r s. carry-none k (args .mods .now) (args .weight .now) (args .nets .now) (args .mark .now) (args .how .now) f (args .sums .now) (args .flow .now) s (args .z) r (way-room .result .room) (way-room .ensures) (λ l. absurd (omega (arith, c .if1 .left))))
 
 pub push-from-spec : {M : Type 1} → statement M
 push-from-spec =

@@ -54,7 +54,7 @@ loop-again c =
     let args = c .before .before .before .before .before .before .before .before .before .before .args in
     let loop = c .before .before .before .loop in (
       omega arith,
-      ⊎-elim (λ w. rw (w .9, w .10, w .11) (round-push (args .mods .now) (args .weight .now) (args .nets .now) (args .mark .now) (args .how .now) (args .sums .now) (args .flow .now) (loop .z) (loop .any) (loop .sums) (loop .flow) (loop .inv .1) _ _ (c .before .before .loop-test .taken) (w .0 .taken) (let n = w .2 .taken in omega arith) (w .5 .ensures)))
+      ⊎-elim (λ w. rw (w .9, w .10, w .11) (round-push (args .mods .now) (args .weight .now) (args .nets .now) (args .mark .now) (args .how .now) (args .sums .now) (args .flow .now) (loop .z) (loop .any) (loop .sums) (loop .flow) (loop .inv .1) _ _ (c .before .before .loop-test .taken) (w .0 .taken) (let n = w .2 .taken in omega arith) (w .5 .ensures .1)))
           (⊎-elim (λ w. rw (w .3, w .4, w .5) (round-skip (args .mods .now) (args .weight .now) (args .nets .now) (args .mark .now) (args .how .now) (args .sums .now) (args .flow .now) (loop .z) (loop .any) (loop .sums) (loop .flow) (loop .inv .1) (λ e h. let z = w .2 .left in absurd (omega arith))))
           (λ w. rw (w .1, w .2, w .3) (round-skip (args .mods .now) (args .weight .now) (args .nets .now) (args .mark .now) (args .how .now) (args .sums .now) (args .flow .now) (loop .z) (loop .any) (loop .sums) (loop .flow) (loop .inv .1) (λ e h. w .0 .left e)))) (c .if1 .came),
       ⊎-elim (λ w. ap length (w .9) ∙ w .5 .kept .1 .1 .1 .1 .1 .1 .0 ∙ loop .inv .2) (⊎-elim (λ w. ap length (w .3) ∙ loop .inv .2) (λ w. ap length (w .1) ∙ loop .inv .2)) (c .if1 .came),
