@@ -171,7 +171,7 @@ module _ (ms nt mk w sn : List ℕ) (N u x : ℕ) (t : Thread ms nt mk w sn N u)
   }
 
   -- by the net's room, which is marked
-  pub thread-enter-room : {v′ n y : ℕ} {sn′ : List ℕ} → v′ ≡ getD ms (entered x) 0 → n ≡ getD nt (left x) 0 → y ≡ v′ + 1 → sn′ ≡ set sn n y → kind x ≡ 0 → length sn ≡ N → Thread ms nt mk (set w v′ x) sn′ N v′
+  thread-enter-room : {v′ n y : ℕ} {sn′ : List ℕ} → v′ ≡ getD ms (entered x) 0 → n ≡ getD nt (left x) 0 → y ≡ v′ + 1 → sn′ ≡ set sn n y → kind x ≡ 0 → length sn ≡ N → Thread ms nt mk (set w v′ x) sn′ N v′
   thread-enter-room ev en ey es k ls = rw (es, ey, en, ev, add-one)
       (entered-by (set sn e (suc v)) (λ _. getD-set-same sn e (suc v) 0 (omega (arith, ls, nets (left x) (omega (arith, o .in-left, t .trail .nts)))))
       (λ i q. getD-set-other sn e i (suc v) 0 (λ h. q (ap (λ (j : ℕ). getD sn j 0) h ∙ o .room k))))
@@ -180,7 +180,7 @@ module _ (ms nt mk w sn : List ℕ) (N u x : ℕ) (t : Thread ms nt mk w sn N u)
       e = getD nt (left x) 0
 
   -- by what a pin takes or sends
-  pub thread-enter-undo : {v′ : ℕ} {sn′ : List ℕ} → v′ ≡ getD ms (entered x) 0 → sn′ ≡ sn → kind x ≢ 0 → Thread ms nt mk (set w v′ x) sn′ N v′
+  thread-enter-undo : {v′ : ℕ} {sn′ : List ℕ} → v′ ≡ getD ms (entered x) 0 → sn′ ≡ sn → kind x ≢ 0 → Thread ms nt mk (set w v′ x) sn′ N v′
   thread-enter-undo ev es k = rw (es, ev) (entered-by sn (λ e. absurd (k e)) (λ _ _. refl))
 
   -- as the code puts it

@@ -77,8 +77,8 @@ fn gather(
     let mut w: usize = 0;
     while w < crate::sets::MODULES {
         let members = front[w] & !meters[w];
-        crate::sets::join_modules(wires, w, members, &mut *met);
-        crate::sets::join_modules(sends, w, members, &mut *sent);
+        crate::sets::join_members(wires, w * 512, members, &mut *met);
+        crate::sets::join_members(sends, w * 512, members, &mut *sent);
         w += 1;
     }
 }
@@ -110,7 +110,7 @@ fn spread_word(
     let part = met & !(fulls[w] | parts[w]);
     parts[w] = parts[w] | part;
     crate::sets::mark_members(w, new, d, &mut *fullat);
-    crate::sets::join_nets(ends, w, new, &mut *to);
+    crate::sets::join_members(ends, w * 256, new, &mut *to);
     crate::sets::mark_members(w, part, d, &mut *partat);
     take_nets(first, mods, weight, flow, w, part, &mut *to);
 }

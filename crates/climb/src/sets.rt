@@ -52,24 +52,13 @@ pub fn join(rows: &[u64], from: usize, to: &mut [u64])
     }
 }
 
-// Adds the rows, of 8 words, of the modules in word w.
-pub fn join_modules(rows: &[u64], w: usize, members: u64, to: &mut [u64])
-    requires { ⌜ (w < 4) × (length (now rows) ≡ 2048) × (length (now to) ≡ 8) ⌝ }
+// Adds the rows of the members of a word, where those of its 64 begin at `from`; they are as long as the row that they are added to.
+pub fn join_members(rows: &[u64], from: usize, members: u64, to: &mut [u64])
+    requires { ⌜ from + 64 * length (now to) ≤ length (now rows) ⌝ }
 {
     let mut x = members;
     while x != 0 {
-        join(rows, w * 512 + lowest(x) * NETS, &mut *to);
-        x = rest(x);
-    }
-}
-
-// Adds the rows, of 4 words, of the nets in word w.
-pub fn join_nets(rows: &[u64], w: usize, members: u64, to: &mut [u64])
-    requires { ⌜ (w < 8) × (length (now rows) ≡ 2048) × (length (now to) ≡ 4) ⌝ }
-{
-    let mut x = members;
-    while x != 0 {
-        join(rows, w * 256 + lowest(x) * MODULES, &mut *to);
+        join(rows, from + lowest(x) * to.len(), &mut *to);
         x = rest(x);
     }
 }

@@ -29,11 +29,17 @@ mul-members-2 c = search needs
 shared-slice-read-members-2 : tie.Need-shared-slice-read-members-2 Inv-loop μ-loop
 shared-slice-read-members-2 c = search needs
 
-join-modules-requires : tie.Need-join-modules-requires Inv-loop μ-loop
-join-modules-requires c κs = search needs
+mul-join-members : tie.Need-mul-join-members Inv-loop μ-loop
+mul-join-members c = search needs
 
-join-modules-requires-2 : tie.Need-join-modules-requires-2 Inv-loop μ-loop
-join-modules-requires-2 c κs = search needs
+join-members-requires : tie.Need-join-members-requires Inv-loop μ-loop
+join-members-requires c κs = search needs
+
+mul-join-members-2 : tie.Need-mul-join-members-2 Inv-loop μ-loop
+mul-join-members-2 c = search needs
+
+join-members-requires-2 : tie.Need-join-members-requires-2 Inv-loop μ-loop
+join-members-requires-2 c κs = search needs
 
 add-w : tie.Need-add-w Inv-loop μ-loop
 add-w c = search needs
@@ -64,8 +70,10 @@ gather-spec =
     shared-slice-read-members
     mul-members-2
     shared-slice-read-members-2
-    join-modules-requires
-    join-modules-requires-2
+    mul-join-members
+    join-members-requires
+    mul-join-members-2
+    join-members-requires-2
     add-w
     loop-less
     loop-again
