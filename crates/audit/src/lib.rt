@@ -12,7 +12,7 @@ ghost use Rattle.book.specs.Sound.{Sound};
 ghost use Rattle.book.specs.Cards.{cardOf};
 ghost use Rattle.side.specs.Given.{Lent, AtNet};
 ghost use Rattle.audit.specs.Checker.{agree, checkedGood, checkedSound, checkedOf};
-ghost use Rattle.audit.specs.Rules.{LentFlow, mostSent, sentAt, takenAt, badNetFlow, check11, balanceOf, ruledOf};
+ghost use Rattle.audit.specs.Rules.{LentFlow, mostSent, sentAt, takenAt, badNetFlow, check11, balanceOf, ruledOf, valueSent, valueTaken};
 ghost use Rattle.audit.specs.Tallies.{Empty, Tally, Small, uneven, metersTo};
 
 // The answer of the checker.
@@ -242,4 +242,29 @@ pub fn check(book: &[u8], side: &[u8], flow: &[i32], price: u32) -> Checked
         book::Reading::Good(_) => check_sound(book, side, flow, price),
         book::Reading::Refused(why) => Checked::Refused(why),
     }
+}
+
+// The number where the test holds, and 0 where it does not.
+fn if_on(on: bool, x: u64) -> u64
+    ensures { λ r. ⌜ (r ≡ cond on x 0) × (r ≤ x) ⌝ }
+{
+    if on { x } else { 0 }
+}
+
+// The value of a flow: what the pins of meter modules send, less what they take, where they do not take more.
+pub fn value_of(book: &[u8], flow: &[i32]) -> usize
+    requires { ⌜ LentFlow (now book) (now flow) × (valueTaken (now book) (now flow) ≤ valueSent (now book) (now flow)) ⌝ }
+    ensures { λ r. ⌜ valueTaken (now (book .entry)) (now (flow .entry)) + r ≡ valueSent (now (book .entry)) (now (flow .entry)) ⌝ }
+{
+    let count = book::pins(book);
+    let mut sent: u64 = 0;
+    let mut taken: u64 = 0;
+    let mut p = 0;
+    while p < count {
+        let on = book::mark(book, book::pin(book, p)) == 1;
+        sent += if_on(on, sent_at(flow, p));
+        taken += if_on(on, taken_at(flow, p));
+        p += 1;
+    }
+    (sent - taken) as usize
 }

@@ -1,8 +1,8 @@
--- What the buffers hold after a split, and what a split needs of them. Assumes nothing.
+-- What the buffers hold after a split, the price as the value of its flow, and what a split needs of them. Assumes nothing.
 use mathlib.Core.Path.{_≡_, sym, ap, _∙_}
 use mathlib.Core.Bool.{false}
 use mathlib.Core.List.{List, _++_}
-use Prim.Native.Nat.{ℕ, _≤_}
+use Prim.Native.Nat.{ℕ, _+_, _≤_}
 use native.Mathlib.Omega.{arith}
 use lib.Dec.{ltb}
 use lib.IntN.{ℤ}
@@ -16,6 +16,8 @@ use Rattle.book.specs.Sound.{Sound}
 use Rattle.book.specs.Cards.{cardOf, netsOf}
 use Rattle.side.specs.Sides.{sideOf, bytesFor}
 use Rattle.side.specs.Given.{isShort}
+use Rattle.audit.specs.Rules.{LentFlow, valueSent, valueTaken}
+use Rattle.audit.proofs.Fairness.{value-to}
 use Rattle.split.specs.Solved.{Solved}
 use Rattle.split.specs.Splits.{Buffers, buffers, tooShort, Holds, Room}
 
@@ -30,6 +32,17 @@ holds-of s near₀ far₀ near far fl₀ xs p k e l f q g =
       tail = drop-at xs (drop k fl₀) (pins s) n ∙ ap (λ (i : ℕ). drop i fl₀) e;
       price-is = g;
     }
+
+-- what the flow of a split sends less what it takes, at meter modules, is the price of its near side
+module _ (s : List ℕ) (h : Sound s) (near₀ far₀ near far : List ℕ) (xs : List ℤ) (q : Solved (cardOf s) near₀ far₀ near far xs) where
+  value-is : valueSent s xs ≡ valueTaken s xs + price (netsOf s) (sideOf near)
+  value-is = value-to s h xs (price (netsOf s) (sideOf near)) (q .value)
+
+  pub solved-lent : pins s ≤ length xs → LentFlow s xs × (valueTaken s xs ≤ valueSent s xs)
+  solved-lent l = (record { sound = h; enough = l }, omega (arith, value-is))
+
+  pub solved-price : (r : ℕ) → valueTaken s xs + r ≡ valueSent s xs → r ≡ price (netsOf s) (sideOf near)
+  solved-price r e = omega (arith, value-is)
 
 pub room-of : (s : List ℕ) (b : Buffers) → Sound s → tooShort s b ≡ false → Room s (b .near) (b .far) (b .flow)
 unfolding tooShort isShort

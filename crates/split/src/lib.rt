@@ -7,9 +7,11 @@ use book::Book;
 ghost use mathlib.Core.Path.{_≡_};
 ghost use Prim.Native.Nat.{_+_};
 ghost use lib.ListN.{length};
+ghost use Rattle.line.specs.Card.{price};
 ghost use Rattle.book.specs.Format.{modules, nets, pins};
-ghost use Rattle.book.specs.Cards.{cardOf};
+ghost use Rattle.book.specs.Cards.{netsOf, cardOf};
 ghost use Rattle.book.specs.Sound.{Sound};
+ghost use Rattle.side.specs.Sides.{sideOf};
 ghost use Rattle.split.specs.Solved.{Solved};
 ghost use Rattle.split.specs.Splits.{buffers, Room, Holds, SplitIf, Split, tooShort};
 
@@ -41,10 +43,10 @@ fn split_loaded(
     core::solve(&*first, &*mods, &*weight, &*mark, near, far, flow);
 }
 
-// The same with slices of its own.
-fn split_exact(book: &[u8], near: &mut [u8], far: &mut [u8], flow: &mut [i32])
+// The same with slices of its own; the price is the value of the flow.
+fn split_exact(book: &[u8], near: &mut [u8], far: &mut [u8], flow: &mut [i32]) -> usize
     requires { ⌜ Room (now book) (now near) (now far) (now flow) × (length (now flow) ≡ pins (now book)) ⌝ }
-    ensures { λ _. ⌜ Solved (cardOf (now (book .entry))) (now (near .entry)) (now (far .entry)) (now (near .exit)) (now (far .exit)) (now (flow .exit)) ⌝ }
+    ensures { λ r. ⌜ Solved (cardOf (now (book .entry))) (now (near .entry)) (now (far .entry)) (now (near .exit)) (now (far .exit)) (now (flow .exit)) × (r ≡ price (netsOf (now (book .entry))) (sideOf (now (near .exit)))) ⌝ }
 {
     let m = book::modules(book);
     let n = book::nets(book);
@@ -62,18 +64,18 @@ fn split_exact(book: &[u8], near: &mut [u8], far: &mut [u8], flow: &mut [i32])
         &mut mark[..m],
         near,
         far,
-        flow,
+        &mut *flow,
     );
+    audit::value_of(book, &*flow)
 }
 
-// The split of a sound book, in buffers that are long enough; the price is that of the near side.
+// The split of a sound book, in buffers that are long enough; the price is the value of the flow.
 fn split_sound(book: &[u8], near: &mut [u8], far: &mut [u8], flow: &mut [i32]) -> usize
     requires { ⌜ Room (now book) (now near) (now far) (now flow) ⌝ }
     ensures { λ r. ⌜ Holds (now (book .entry)) r (buffers (now (near .entry)) (now (far .entry)) (now (flow .entry))) (buffers (now (near .exit)) (now (far .exit)) (now (flow .exit))) ⌝ }
 {
     let p = book::pins(book);
-    split_exact(book, &mut *near, &mut *far, &mut flow[..p]);
-    side::price_of(book, &*near)
+    split_exact(book, &mut *near, &mut *far, &mut flow[..p])
 }
 
 // Check 8.

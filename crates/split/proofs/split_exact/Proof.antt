@@ -1,3 +1,4 @@
+use Rattle.split.proofs.Held.{solved-lent, solved-price}
 use Rattle.book.specs.Format.{modules, nets, pins}
 use Rattle.book.specs.Checks.{mostModules, mostNets, mostPins}
 use lib.Seq.{length-take-le}
@@ -47,6 +48,12 @@ slice-aggregate-split-loaded-4 c = sym (let k : c .before .before .before .befor
 split-loaded-requires : tie.Need-split-loaded-requires
 split-loaded-requires c κs = (c .before .before .before .before .before .before .before .before .before .before .before .before .before .pre .0, (let k : c .before .before .before .before .before .before .before .before .nets .result + 1 ≤ mostNets + 1 = omega (arith, c .before .before .before .before .before .before .before .before .nets .ensures, (c .before .before .before .before .before .before .before .before .before .before .before .before .before .pre .0 .sound) .few-nets) in length-take-le _ _ k) ∙ ap (λ (k : ℕ). k + 1) (c .before .before .before .before .before .before .before .before .nets .ensures), (let k : c .before .before .before .before .before .before .before .pins .result ≤ mostPins = omega (arith, c .before .before .before .before .before .before .before .pins .ensures, (c .before .before .before .before .before .before .before .before .before .before .before .before .before .pre .0 .sound) .few-pins) in length-take-le _ _ k) ∙ c .before .before .before .before .before .before .before .pins .ensures, (let k : c .before .before .before .before .before .before .before .before .nets .result ≤ mostNets = omega (arith, c .before .before .before .before .before .before .before .before .nets .ensures, (c .before .before .before .before .before .before .before .before .before .before .before .before .before .pre .0 .sound) .few-nets) in length-take-le _ _ k) ∙ c .before .before .before .before .before .before .before .before .nets .ensures, (let k : c .before .before .before .before .before .before .before .before .before .modules .result ≤ mostModules = omega (arith, c .before .before .before .before .before .before .before .before .before .modules .ensures, (c .before .before .before .before .before .before .before .before .before .before .before .before .before .pre .0 .sound) .few-modules) in length-take-le _ _ k) ∙ c .before .before .before .before .before .before .before .before .before .modules .ensures, c .before .before .before .before .before .before .before .before .before .before .before .before .before .pre .1)
 
+value-of-requires : tie.Need-value-of-requires
+value-of-requires c κs =
+    let p = c .before .before .before .before .before .before .before .before .before .before .before .before .before .before .before .before .before .before .before .before .before .before .before .before .pre in
+    let l = c .before .before .before .before .before .before .before .before .before .before .split-loaded in
+    solved-lent _ (p .0 .sound) _ _ _ _ _ (l .ensures) (omega (arith, l .kept .1 .1 .1 .1 .1 .1 .1 .0, p .1))
+
 same-length : tie.Need-same-length
 same-length c = search needs
 
@@ -57,7 +64,9 @@ same-length-3 : tie.Need-same-length-3
 same-length-3 c = search needs
 
 returns : tie.Need-returns
-returns c = search needs
+returns c =
+    let q = c .before .before .before .before .before .before .before .before .before .before .before .split-loaded .ensures in
+    (q, solved-price _ (c .before .before .before .before .before .before .before .before .before .before .before .before .before .before .before .before .before .before .before .before .before .before .before .before .before .pre .0 .sound) _ _ _ _ _ q _ (c .value-of .ensures))
 
 pub split-exact-spec : {M : Type 1} → statement M
 split-exact-spec =
@@ -76,6 +85,7 @@ split-exact-spec =
     array-borrow-prefix-mark
     slice-aggregate-split-loaded-4
     split-loaded-requires
+    value-of-requires
     same-length
     same-length-2
     same-length-3

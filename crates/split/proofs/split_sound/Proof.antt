@@ -18,9 +18,6 @@ slice-aggregate-split-exact c = sym (length-take-le _ _ (omega (arith, c .before
 split-exact-requires : tie.Need-split-exact-requires
 split-exact-requires c κs = (record { sound = c .before .before .before .before .before .before .before .pre .sound; for-near = c .before .before .before .before .before .before .before .pre .for-near; for-far = c .before .before .before .before .before .before .before .pre .for-far; for-flow = omega (arith, (length-take-le (c .before .before .before .pins .result) (c .before .before .before .before .before .before .before .args .flow .now) (omega (arith, c .before .before .before .pins .ensures, c .before .before .before .before .before .before .before .pre .for-flow))), c .before .before .before .pins .ensures) }, (length-take-le (c .before .before .before .pins .result) (c .before .before .before .before .before .before .before .args .flow .now) (omega (arith, c .before .before .before .pins .ensures, c .before .before .before .before .before .before .before .pre .for-flow))) ∙ c .before .before .before .pins .ensures)
 
-price-of-requires : tie.Need-price-of-requires
-price-of-requires c κs = record { sound = c .before .before .before .before .before .before .before .before .before .before .before .before .before .before .pre .sound; enough = omega (arith, c .before .before .before .before .before .before .before .before .before .before .before .before .before .before .pre .for-near, c .before .before .before .before .before .before .split-exact .kept .1 .0) }
-
 same-length : tie.Need-same-length
 same-length c = search needs
 
@@ -31,7 +28,11 @@ same-length-3 : tie.Need-same-length-3
 same-length-3 c = search needs
 
 returns : tie.Need-returns
-returns c = holds-of (c .before .before .before .before .before .before .before .before .before .before .before .before .before .before .before .args .book .now) _ _ _ _ (c .before .before .before .before .before .before .before .before .before .before .before .before .before .before .before .args .flow .now) _ _ (c .before .before .before .before .before .before .before .before .before .before .before .pins .result) (c .before .before .before .before .before .before .before .before .before .before .before .pins .ensures) (c .before .before .before .before .before .before .before .before .before .before .before .before .before .before .before .pre .for-flow) (c .before .before .before .before .before .before .before .split-exact .kept .1 .1 .1 .0) (c .before .before .before .before .before .before .before .split-exact .ensures) (c .price-of .ensures .0)
+returns c =
+    let a = c .before .before .before .before .before .before .before .before .before .before .before .before .before .args in
+    let p = c .before .before .before .before .before .before .before .before .before .pins in
+    let e = c .before .before .before .before .before .split-exact in
+    holds-of (a .book .now) _ _ _ _ (a .flow .now) _ _ (p .result) (p .ensures) (c .before .before .before .before .before .before .before .before .before .before .before .before .before .pre .for-flow) (e .kept .1 .1 .1 .0) (e .ensures .0) (e .ensures .1)
 
 pub split-sound-spec : {M : Type 1} → statement M
 split-sound-spec =
@@ -41,7 +42,6 @@ split-sound-spec =
     slice-relend-prefix-split-exact
     slice-aggregate-split-exact
     split-exact-requires
-    price-of-requires
     same-length
     same-length-2
     same-length-3
