@@ -1,7 +1,7 @@
 -- A step onward as one number: what the tests at a pin tell of it, and what the number then says. Assumes nothing.
 use mathlib.Core.Path.{_≡_, refl, sym, ap, _∙_, subst}
 use mathlib.Core.Logic.{_≢_}
-use mathlib.Core.Bool.{Bool, true, false, not, _&&_, _||_, false≢true}
+use mathlib.Core.Bool.{Bool, true, false, not, _&&_, _||_, false≢true, and-eq-true-iff}
 use mathlib.Core.List.{List}
 use Prim.Native.Nat.{ℕ, _+_, _*_, _≤_, _<_}
 use native.Mathlib.Omega.{arith}
@@ -16,10 +16,6 @@ use Rattle.climb.specs.Climb.{Lay, Entry, Onward}
 
 -- ---- what tests tell together
 
-pub and-both : (a b : Bool) → (a && b) ≡ true → (a ≡ true) × (b ≡ true)
-and-both true b e = (refl, e)
-and-both false b e = absurd (false≢true e)
-
 -- of three tests of which one passes, the one that is left
 free-true : (takes free sends : Bool) → ((takes || free) || sends) ≡ true → takes ≡ false → sends ≡ false → free ≡ true
 free-true takes true sends e p q = refl
@@ -32,8 +28,8 @@ pub entry-of : (ms mk w : List ℕ) (lo hi : ℕ) (takes free sends : Bool) (r a
     ((((takes || free) || sends) && eqb (getD w m 0) 0) && not (eqb (getD mk m 0) 1)) ≡ true → (k ≤ 2) × (k ≡ 0 → (takes ≡ false) × (sends ≡ false)) →
     f ≡ (a * 4 + k) * 65536 → x ≡ r * 4294967296 + f + i → Entry ms mk w lo hi free r a x
 entry-of ms mk w lo hi takes free sends r a {k} {f} {i} {m} {x} on em e kd ef ex =
-    let all = and-both (((takes || free) || sends) && eqb (getD w m 0) 0) (not (eqb (getD mk m 0) 1)) e in
-    let some = and-both ((takes || free) || sends) (eqb (getD w m 0) 0) (all .0) in record {
+    let all = and-eq-true-iff (((takes || free) || sends) && eqb (getD w m 0) 0) (not (eqb (getD mk m 0) 1)) .0 e in
+    let some = and-eq-true-iff ((takes || free) || sends) (eqb (getD w m 0) 0) .0 (all .0) in record {
       pin = i;
       by = k;
       number = ex ∙ ap (λ (j : ℕ). r * 4294967296 + j + i) ef;
@@ -61,7 +57,7 @@ onward-of fs ms ws nt at pl mk lay w sn wide u r a {n} {lo} {hi} {x} la eu lr en
 }
   where
     few : length ms < 16384
-    few = lay .pins
+    few = lay .few-pins
 
     ln : n < length ws
     ln = omega (arith, en, lay .tables .net a la .0)
@@ -79,4 +75,4 @@ onward-of fs ms ws nt at pl mk lay w sn wide u r a {n} {lo} {hi} {x} la eu lr en
     z = read a (y .by) (y .pin) r x (omega (arith, few)) (y .small) (omega (arith, few, lb)) (y .number)
 
     free : (wide && eqb (getD sn n 0) 0) ≡ true → getD sn n 0 ≡ 0
-    free e = eqb-true (getD sn n 0) 0 (and-both wide (eqb (getD sn n 0) 0) e .1)
+    free e = eqb-true (getD sn n 0) 0 (and-eq-true-iff wide (eqb (getD sn n 0) 0) .0 e .1)

@@ -1,5 +1,4 @@
 -- The laws of the climb, a file a subject.
-pub mod Places
 pub mod Entries
 pub mod Threads
 pub mod Routes

@@ -75,7 +75,7 @@ module _ (fs ms ws nt at pl mk : List ℕ) (lay : Lay fs ms ws nt at pl mk) (w s
     trail = record {
       lenw = length-set w s x ∙ lenw;
       nts = lay .tables .counts;
-      few = lay .pins;
+      few = lay .few-pins;
       ranks = λ m i. omega (arith, ranks m i);
       step = λ m i n. absurd (n (meters m i));
     };

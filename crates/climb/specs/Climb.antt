@@ -14,8 +14,9 @@ use Rattle.flow.specs.Push.{Trail}
 pub record Lay (fs ms ws nt at pl mk : List ℕ) : Type 0 where
   pub laid : Laid fs ms ws mk
   pub tables : Tables fs ms ws nt at pl (length mk)
-  pub pins : length ms < 16384
-  pub modules : length mk < 65535
+  pub few-pins : length ms < 16384
+  pub few-modules : length mk ≤ 256
+  pub few-nets : length ws ≤ 512
 
 -- every pin names one of M modules, or of M nets
 abbrev pub Named : List ℕ → ℕ → Type 0
@@ -67,8 +68,6 @@ pub record Thread (ms nt mk w sn : List ℕ) (N u : ℕ) : Type 0 where
   pub opens : (m : ℕ) → In w m → getD mk m 0 ≢ 1 → kind (getD w m 0) ≡ 0 → getD sn (getD nt (left (getD w m 0)) 0) 0 ≡ suc m
 
 -- the lengths of what the climb works in
-pub record Sized (mk ws w sn ds os : List ℕ) : Type 0 where
+pub record Sized (mk ws w sn : List ℕ) : Type 0 where
   pub how : length w ≡ length mk
   pub seen : length sn ≡ length ws
-  pub dist : length ds ≡ length mk
-  pub off : length os ≡ length mk

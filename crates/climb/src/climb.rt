@@ -4,6 +4,7 @@ ghost use lib.ListN.{length, getD};
 ghost use Rattle.line.specs.Flow.{Fair};
 ghost use Rattle.flow.specs.Cards.{cardOf};
 ghost use Rattle.flow.specs.Raise.{Steady};
+ghost use Rattle.reach.specs.Work.{words, numbers};
 ghost use Rattle.climb.specs.Climb.{Lay, Empty, Sized};
 
 // How many steps a meter is given, forth and back, before the distances are looked at anew.
@@ -32,15 +33,12 @@ fn try_meter(
     s: usize,
     how: &mut [u64],
     seen: &mut [u16],
-    dist: &mut [u16],
-    off: &mut [u16],
-    fullat: &[u16],
-    partat: &[u16],
-    touched: &mut [u64],
+    guide: &mut [u16],
+    rows: &mut [u64],
     sums: &mut [u32],
     flow: &mut [i32],
 )
-    requires { ⌜ Lay (now first) (now mods) (now weight) (now nets) (now at) (now pins) (now mark) × Steady (cardOf (now first) (now mods) (now weight) (now mark)) (now mods) (now sums) (now flow) × Sized (now mark) (now weight) (now how) (now seen) (now dist) (now off) × (length (now weight) ≤ length (now fullat)) × (length (now weight) ≤ length (now partat)) × (length (now touched) ≡ 8) × Empty (now how) × (s < length (now mark)) × (getD (now mark) s 0 ≡ 1) ⌝ }
+    requires { ⌜ Lay (now first) (now mods) (now weight) (now nets) (now at) (now pins) (now mark) × Steady (cardOf (now first) (now mods) (now weight) (now mark)) (now mods) (now sums) (now flow) × Sized (now mark) (now weight) (now how) (now seen) × (length (now guide) ≡ numbers) × (length (now rows) ≡ words) × Empty (now how) × (s < length (now mark)) × (getD (now mark) s 0 ≡ 1) ⌝ }
     ensures { λ _. ⌜ Steady (cardOf (now (first .entry)) (now (mods .entry)) (now (weight .entry)) (now (mark .entry))) (now (mods .entry)) (now (sums .exit)) (now (flow .exit)) × Empty (now (how .exit)) ⌝ }
 {
     how[s] = flow::search::pack(1, 0, 0);
@@ -60,20 +58,17 @@ fn try_meter(
             &*flow,
             &*how,
             &*seen,
-            &*dist,
-            fullat,
-            partat,
             u,
-            &mut *off,
+            &mut *guide,
         );
         if x == 0 {
-            dist[u] = crate::levels::FAR;
+            guide[u] = reach::FAR;
             if mark[u] == 1 {
                 break;
             }
             u = crate::ways::leave(mods, nets, mark, weight.len(), u, &mut *how, &mut *seen);
         } else {
-            crate::rows::touch(nets, x, &mut *touched);
+            reach::touch(nets, flow::push::left_pin(x), &mut *rows);
             u = crate::ways::enter(mods, nets, mark, weight.len(), u, x, &mut *how, &mut *seen);
             if mark[u] == 2 {
                 u = crate::ways::deliver(
@@ -84,13 +79,11 @@ fn try_meter(
                     at,
                     pins,
                     mark,
-                    &*dist,
-                    fullat,
-                    partat,
+                    &*guide,
                     u,
                     &mut *how,
                     &mut *seen,
-                    &mut *touched,
+                    &mut *rows,
                     &mut *sums,
                     &mut *flow,
                 );
@@ -121,20 +114,17 @@ fn try_all(
     mark: &[u8],
     how: &mut [u64],
     seen: &mut [u16],
-    dist: &mut [u16],
-    off: &mut [u16],
-    fullat: &[u16],
-    partat: &[u16],
-    touched: &mut [u64],
+    guide: &mut [u16],
+    rows: &mut [u64],
     sums: &mut [u32],
     flow: &mut [i32],
 )
-    requires { ⌜ Lay (now first) (now mods) (now weight) (now nets) (now at) (now pins) (now mark) × Steady (cardOf (now first) (now mods) (now weight) (now mark)) (now mods) (now sums) (now flow) × Sized (now mark) (now weight) (now how) (now seen) (now dist) (now off) × (length (now weight) ≤ length (now fullat)) × (length (now weight) ≤ length (now partat)) × (length (now touched) ≡ 8) × Empty (now how) ⌝ }
+    requires { ⌜ Lay (now first) (now mods) (now weight) (now nets) (now at) (now pins) (now mark) × Steady (cardOf (now first) (now mods) (now weight) (now mark)) (now mods) (now sums) (now flow) × Sized (now mark) (now weight) (now how) (now seen) × (length (now guide) ≡ numbers) × (length (now rows) ≡ words) × Empty (now how) ⌝ }
     ensures { λ _. ⌜ Steady (cardOf (now (first .entry)) (now (mods .entry)) (now (weight .entry)) (now (mark .entry))) (now (mods .entry)) (now (sums .exit)) (now (flow .exit)) × Empty (now (how .exit)) ⌝ }
 {
     let mut s: usize = 0;
     while s < mark.len() {
-        if (mark[s] == 1) & (dist[s] != crate::levels::FAR) {
+        if (mark[s] == 1) & (guide[s] != reach::FAR) {
             try_meter(
                 first,
                 mods,
@@ -146,11 +136,8 @@ fn try_all(
                 s,
                 &mut *how,
                 &mut *seen,
-                &mut *dist,
-                &mut *off,
-                fullat,
-                partat,
-                &mut *touched,
+                &mut *guide,
+                &mut *rows,
                 &mut *sums,
                 &mut *flow,
             );
@@ -159,7 +146,7 @@ fn try_all(
     }
 }
 
-// Rounds of distances and of ways down to the makers, until no meter can reach a maker; a round a module at most. The rows are those of the card and of the flow but for the nets touched.
+// Rounds of a look and of ways down to the makers, until no meter can reach a maker; a round a module at most.
 fn climb_on(
     first: &[u16],
     mods: &[u16],
@@ -168,57 +155,23 @@ fn climb_on(
     at: &[u16],
     pins: &[u16],
     mark: &[u8],
-    wires: &[u64],
-    ends: &[u64],
-    makers: &[u64],
-    meters: &[u64],
-    sends: &mut [u64],
-    roomy: &mut [u64],
-    touched: &mut [u64],
-    fullat: &mut [u16],
-    partat: &mut [u16],
     how: &mut [u64],
     seen: &mut [u16],
-    dist: &mut [u16],
-    off: &mut [u16],
+    guide: &mut [u16],
+    rows: &mut [u64],
     sums: &mut [u32],
     flow: &mut [i32],
 )
-    requires { ⌜ Lay (now first) (now mods) (now weight) (now nets) (now at) (now pins) (now mark) × Steady (cardOf (now first) (now mods) (now weight) (now mark)) (now mods) (now sums) (now flow) × Sized (now mark) (now weight) (now how) (now seen) (now dist) (now off) × Empty (now how) × (length (now wires) ≡ 2048) × (length (now ends) ≡ 2048) × (length (now sends) ≡ 2048) × (length (now roomy) ≡ 8) × (length (now touched) ≡ 8) × (length (now weight) ≤ length (now fullat)) × (length (now weight) ≤ length (now partat)) × (length (now makers) ≡ 4) × (length (now meters) ≡ 4) ⌝ }
+    requires { ⌜ Lay (now first) (now mods) (now weight) (now nets) (now at) (now pins) (now mark) × Steady (cardOf (now first) (now mods) (now weight) (now mark)) (now mods) (now sums) (now flow) × Sized (now mark) (now weight) (now how) (now seen) × (length (now guide) ≡ numbers) × (length (now rows) ≡ words) × Empty (now how) ⌝ }
     ensures { λ _. ⌜ Fair (cardOf (now (first .entry)) (now (mods .entry)) (now (weight .entry)) (now (mark .entry))) (now (flow .exit)) ⌝ }
 {
     let mut k: usize = 0;
     while k < mark.len() {
-        crate::rows::redo(
-            first,
-            mods,
-            weight,
-            &*sums,
-            &*flow,
-            &mut *touched,
-            &mut *sends,
-            &mut *roomy,
-        );
-        let met = crate::levels::levels(
-            first,
-            mods,
-            weight,
-            &*flow,
-            wires,
-            ends,
-            &*sends,
-            &*roomy,
-            makers,
-            meters,
-            &mut *fullat,
-            &mut *partat,
-            &mut *dist,
-        );
+        let met = reach::look(first, mods, weight, &*sums, &*flow, &mut *rows, &mut *guide);
         if !met {
             break;
         }
         flow::num::clear(&mut *seen);
-        flow::num::clear(&mut *off);
         try_all(
             first,
             mods,
@@ -229,11 +182,8 @@ fn climb_on(
             mark,
             &mut *how,
             &mut *seen,
-            &mut *dist,
-            &mut *off,
-            &*fullat,
-            &*partat,
-            &mut *touched,
+            &mut *guide,
+            &mut *rows,
             &mut *sums,
             &mut *flow,
         );
@@ -241,7 +191,7 @@ fn climb_on(
     }
 }
 
-// From any fair flow to a fair one, in lent work and rows of its own.
+// From any fair flow to a fair one, in lent work; the guide and its rows are its own.
 pub fn climb(
     first: &[u16],
     mods: &[u16],
@@ -252,29 +202,17 @@ pub fn climb(
     mark: &[u8],
     how: &mut [u64],
     seen: &mut [u16],
-    dist: &mut [u16],
-    off: &mut [u16],
     sums: &mut [u32],
     flow: &mut [i32],
 )
-    requires { ⌜ Lay (now first) (now mods) (now weight) (now nets) (now at) (now pins) (now mark) × (length (now weight) ≤ 512) × Sized (now mark) (now weight) (now how) (now seen) (now dist) (now off) × (length (now sums) ≡ length (now weight)) × Fair (cardOf (now first) (now mods) (now weight) (now mark)) (now flow) × (length (now flow) ≡ length (now mods)) ⌝ }
+    requires { ⌜ Lay (now first) (now mods) (now weight) (now nets) (now at) (now pins) (now mark) × Sized (now mark) (now weight) (now how) (now seen) × (length (now sums) ≡ length (now weight)) × Fair (cardOf (now first) (now mods) (now weight) (now mark)) (now flow) × (length (now flow) ≡ length (now mods)) ⌝ }
     ensures { λ _. ⌜ Fair (cardOf (now (first .entry)) (now (mods .entry)) (now (weight .entry)) (now (mark .entry))) (now (flow .exit)) ⌝ }
 {
-    let mut wires: [u64; 2048] = [0; 2048];
-    let mut ends: [u64; 2048] = [0; 2048];
-    let mut makers: [u64; 4] = [0; 4];
-    let mut meters: [u64; 4] = [0; 4];
-    let mut sends: [u64; 2048] = [0; 2048];
-    let mut roomy: [u64; 8] = [18446744073709551615; 8];
-    let mut touched: [u64; 8] = [0; 8];
-    let mut fullat: [u16; 512] = [0; 512];
-    let mut partat: [u16; 512] = [0; 512];
+    let mut guide: [u16; reach::NUMBERS] = [0; reach::NUMBERS];
+    let mut rows: [u64; reach::WORDS] = [0; reach::WORDS];
     flow::engine::net_sums(first, &*flow, &mut *sums);
     forget(&mut *how);
-    crate::rows::note_all(first, mods, weight, &mut wires, &mut ends);
-    crate::rows::mark_row(mark, 2, &mut makers);
-    crate::rows::mark_row(mark, 1, &mut meters);
-    crate::rows::touch_sent(&*sums, &mut touched);
+    reach::begin(first, mods, weight, mark, &*sums, &mut rows);
     climb_on(
         first,
         mods,
@@ -283,19 +221,10 @@ pub fn climb(
         at,
         pins,
         mark,
-        &wires,
-        &ends,
-        &makers,
-        &meters,
-        &mut sends,
-        &mut roomy,
-        &mut touched,
-        &mut fullat,
-        &mut partat,
         how,
         seen,
-        dist,
-        off,
+        &mut guide,
+        &mut rows,
         sums,
         flow,
     );

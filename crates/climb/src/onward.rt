@@ -6,6 +6,7 @@ ghost use Prim.Native.Nat.{suc, _+_, _≤_, _<_};
 ghost use lib.ListN.{length, getD, set};
 ghost use Rattle.flow.specs.Search.{In, rank, left};
 ghost use Rattle.flow.specs.Push.{Trail, Level};
+ghost use Rattle.reach.specs.Work.{numbers};
 ghost use Rattle.climb.specs.Climb.{Lay, Named, Entry, Onward, Instead};
 
 // A way of more steps than these is long.
@@ -47,8 +48,8 @@ fn rank_after(x: u64) -> usize
 }
 
 // The first step into the pins lo .. hi, as one number; 0 if there is none.
-fn entry(mods: &[u16], mark: &[u8], flow: &[i32], how: &[u64], dist: &[u16], look: Look) -> u64
-    requires { ⌜ (look .hi ≤ length (now mods)) × (length (now mods) < 16384) × (length (now flow) ≡ length (now mods)) × Named (now mods) (length (now mark)) × (length (now how) ≡ length (now mark)) × (length (now dist) ≡ length (now mark)) × (look .rank < 65536) × (look .a < 16384) ⌝ }
+fn entry(mods: &[u16], mark: &[u8], flow: &[i32], how: &[u64], guide: &[u16], look: Look) -> u64
+    requires { ⌜ (look .hi ≤ length (now mods)) × (length (now mods) < 16384) × (length (now flow) ≡ length (now mods)) × Named (now mods) (length (now mark)) × (length (now how) ≡ length (now mark)) × (length (now mark) ≤ 256) × (length (now guide) ≡ numbers) × (look .rank < 65536) × (look .a < 16384) ⌝ }
     ensures { λ x. ⌜ (x ≢ 0 → Entry (now (mods .entry)) (now (mark .entry)) (now (how .entry)) (look .lo) (look .hi) (look .open) (look .rank) (look .a) x) ⌝ }
 {
     let hi = look.hi;
@@ -58,7 +59,7 @@ fn entry(mods: &[u16], mark: &[u8], flow: &[i32], how: &[u64], dist: &[u16], loo
     let mut i = look.lo;
     while i < hi {
         let m = flow::num::wide(mods[i]);
-        if dist[m] == lower {
+        if guide[m] == lower {
             let f = flow[i];
             if (takes | open | (f > 0)) & (how[m] == 0) & (mark[m] != 1) {
                 let kind = kind_to(takes, f > 0);
@@ -84,20 +85,18 @@ fn leave_by(
     flow: &[i32],
     how: &[u64],
     seen: &[u16],
-    dist: &[u16],
-    fullat: &[u16],
-    partat: &[u16],
+    guide: &[u16],
     u: usize,
     a: u16,
     d: u16,
     rank: usize,
 ) -> u64
-    requires { ⌜ Lay (now first) (now mods) (now weight) (now nets) (now at) (now pins) (now mark) × (length (now sums) ≡ length (now weight)) × (length (now flow) ≡ length (now mods)) × (length (now how) ≡ length (now mark)) × (length (now seen) ≡ length (now weight)) × (length (now dist) ≡ length (now mark)) × (length (now weight) ≤ length (now fullat)) × (length (now weight) ≤ length (now partat)) × (a < length (now mods)) × (getD (now mods) a 0 ≡ u) × (rank ≤ length (now mark)) × (0 < rank) × (0 < d) ⌝ }
+    requires { ⌜ Lay (now first) (now mods) (now weight) (now nets) (now at) (now pins) (now mark) × (length (now sums) ≡ length (now weight)) × (length (now flow) ≡ length (now mods)) × (length (now how) ≡ length (now mark)) × (length (now seen) ≡ length (now weight)) × (length (now guide) ≡ numbers) × (a < length (now mods)) × (getD (now mods) a 0 ≡ u) × (rank ≤ length (now mark)) × (0 < rank) × (0 < d) ⌝ }
     ensures { λ x. ⌜ (x ≢ 0 → Onward (now (mods .entry)) (now (nets .entry)) (now (mark .entry)) (now (how .entry)) (now (seen .entry)) u rank x) ⌝ }
 {
     let p = flow::num::wide(a);
     let n = flow::num::wide(nets[p]);
-    if (fullat[n] != d) & (partat[n] != d) {
+    if (guide[reach::WHOLE + n] != d) & (guide[reach::PART + n] != d) {
         return 0;
     }
     let room = sums[n] < flow::num::wide32(weight[n]);
@@ -110,7 +109,7 @@ fn leave_by(
         rank: rank,
         a: a,
     };
-    entry(mods, mark, flow, how, dist, look)
+    entry(mods, mark, flow, how, guide, look)
 }
 
 // How much the step that x tells can carry; 0 if x tells none.
@@ -148,16 +147,14 @@ fn widest(
     flow: &[i32],
     how: &[u64],
     seen: &[u16],
-    dist: &[u16],
-    fullat: &[u16],
-    partat: &[u16],
+    guide: &[u16],
     u: usize,
     lo: usize,
     hi: usize,
     d: u16,
     rank: usize,
 ) -> u64
-    requires { ⌜ Lay (now first) (now mods) (now weight) (now nets) (now at) (now pins) (now mark) × Level (now mods) (now weight) (now sums) (now flow) × (length (now how) ≡ length (now mark)) × (length (now seen) ≡ length (now weight)) × (length (now dist) ≡ length (now mark)) × (length (now weight) ≤ length (now fullat)) × (length (now weight) ≤ length (now partat)) × (u < length (now mark)) × (getD (now at) u 0 ≤ lo) × (hi ≡ getD (now at) (u + 1) 0) × (rank ≤ length (now mark)) × (0 < rank) × (0 < d) ⌝ }
+    requires { ⌜ Lay (now first) (now mods) (now weight) (now nets) (now at) (now pins) (now mark) × Level (now mods) (now weight) (now sums) (now flow) × (length (now how) ≡ length (now mark)) × (length (now seen) ≡ length (now weight)) × (length (now guide) ≡ numbers) × (u < length (now mark)) × (getD (now at) u 0 ≤ lo) × (hi ≡ getD (now at) (u + 1) 0) × (rank ≤ length (now mark)) × (0 < rank) × (0 < d) ⌝ }
     ensures { λ x. ⌜ (x ≢ 0 → Onward (now (mods .entry)) (now (nets .entry)) (now (mark .entry)) (now (how .entry)) (now (seen .entry)) u rank x) ⌝ }
 {
     let mut best: u64 = 0;
@@ -176,9 +173,7 @@ fn widest(
             flow,
             how,
             seen,
-            dist,
-            fullat,
-            partat,
+            guide,
             u,
             pins[i],
             d,
@@ -207,16 +202,13 @@ pub fn onward(
     flow: &[i32],
     how: &[u64],
     seen: &[u16],
-    dist: &[u16],
-    fullat: &[u16],
-    partat: &[u16],
     u: usize,
-    off: &mut [u16],
+    guide: &mut [u16],
 ) -> u64
-    requires { ⌜ Lay (now first) (now mods) (now weight) (now nets) (now at) (now pins) (now mark) × Level (now mods) (now weight) (now sums) (now flow) × (length (now how) ≡ length (now mark)) × (length (now seen) ≡ length (now weight)) × (length (now dist) ≡ length (now mark)) × (length (now weight) ≤ length (now fullat)) × (length (now weight) ≤ length (now partat)) × (length (now off) ≡ length (now mark)) × (u < length (now mark)) ⌝ }
+    requires { ⌜ Lay (now first) (now mods) (now weight) (now nets) (now at) (now pins) (now mark) × Level (now mods) (now weight) (now sums) (now flow) × (length (now how) ≡ length (now mark)) × (length (now seen) ≡ length (now weight)) × (length (now guide) ≡ numbers) × (u < length (now mark)) ⌝ }
     ensures { λ x. ⌜ (x ≢ 0 → Onward (now (mods .entry)) (now (nets .entry)) (now (mark .entry)) (now (how .entry)) (now (seen .entry)) u (suc (rank (getD (now (how .entry)) u 0))) x) ⌝ }
 {
-    let d = dist[u];
+    let d = guide[u];
     let rank = rank_after(how[u]);
     if (d == 0) | (rank > mark.len()) {
         return 0;
@@ -236,9 +228,7 @@ pub fn onward(
             flow,
             how,
             seen,
-            dist,
-            fullat,
-            partat,
+            &*guide,
             u,
             lo,
             hi,
@@ -246,7 +236,7 @@ pub fn onward(
             rank,
         );
     }
-    let mut i = lo + flow::num::wide(off[u]);
+    let mut i = lo + flow::num::wide(guide[reach::OWN + u]);
     while i < hi {
         let x = leave_by(
             first,
@@ -260,16 +250,14 @@ pub fn onward(
             flow,
             how,
             seen,
-            dist,
-            fullat,
-            partat,
+            &*guide,
             u,
             pins[i],
             d,
             rank,
         );
         if x != 0 {
-            off[u] = flow::num::narrow(i - lo);
+            guide[reach::OWN + u] = flow::num::narrow(i - lo);
             return x;
         }
         i += 1;
@@ -312,18 +300,16 @@ pub fn instead(
     sums: &[u32],
     flow: &[i32],
     seen: &[u16],
-    dist: &[u16],
-    fullat: &[u16],
-    partat: &[u16],
+    guide: &[u16],
     v: usize,
     how: &mut [u64],
 ) -> u64
-    requires { ⌜ Lay (now first) (now mods) (now weight) (now nets) (now at) (now pins) (now mark) × Level (now mods) (now weight) (now sums) (now flow) × Trail (now mods) (now nets) (now mark) (now how) (length (now weight)) × In (now how) v × (getD (now mark) v 0 ≢ 1) × (0 < rank (getD (now how) v 0)) × (length (now seen) ≡ length (now weight)) × (length (now dist) ≡ length (now mark)) × (length (now weight) ≤ length (now fullat)) × (length (now weight) ≤ length (now partat)) ⌝ }
+    requires { ⌜ Lay (now first) (now mods) (now weight) (now nets) (now at) (now pins) (now mark) × Level (now mods) (now weight) (now sums) (now flow) × Trail (now mods) (now nets) (now mark) (now how) (length (now weight)) × In (now how) v × (getD (now mark) v 0 ≢ 1) × (0 < rank (getD (now how) v 0)) × (length (now seen) ≡ length (now weight)) × (length (now guide) ≡ numbers) ⌝ }
     ensures { λ x. ⌜ (now (how .exit) ≡ now (how .entry)) × (x ≢ 0 → Instead (now (mods .entry)) (now (nets .entry)) (now (mark .entry)) (now (how .entry)) (now (seen .entry)) v x) ⌝ }
 {
     let old = how[v];
     let u = flow::num::wide(mods[flow::push::left_pin(old)]);
-    let d = dist[u];
+    let d = guide[u];
     if d == 0 {
         return 0;
     }
@@ -343,9 +329,7 @@ pub fn instead(
         flow,
         &*how,
         seen,
-        dist,
-        fullat,
-        partat,
+        guide,
         u,
         lo,
         hi,

@@ -7,6 +7,7 @@ ghost use Rattle.flow.specs.Search.{In, rank, left, kind, entered};
 ghost use Rattle.flow.specs.Cards.{cardOf};
 ghost use Rattle.flow.specs.Push.{Level};
 ghost use Rattle.flow.specs.Raise.{Steady};
+ghost use Rattle.reach.specs.Work.{words, numbers};
 ghost use Rattle.climb.specs.Climb.{Lay, Named, Thread, Onward, Instead};
 
 // Puts the step that x tells to the module that it leads to. The room of a net is marked with the module that it leads to.
@@ -115,18 +116,16 @@ fn mend(
     at: &[u16],
     pins: &[u16],
     mark: &[u8],
-    dist: &[u16],
-    fullat: &[u16],
-    partat: &[u16],
+    guide: &[u16],
     sums: &[u32],
     flow: &[i32],
     z: usize,
     v: usize,
     how: &mut [u64],
     seen: &mut [u16],
-    touched: &mut [u64],
+    rows: &mut [u64],
 ) -> bool
-    requires { ⌜ Lay (now first) (now mods) (now weight) (now nets) (now at) (now pins) (now mark) × Level (now mods) (now weight) (now sums) (now flow) × Thread (now mods) (now nets) (now mark) (now how) (now seen) (length (now weight)) z × (length (now seen) ≡ length (now weight)) × (length (now dist) ≡ length (now mark)) × (length (now weight) ≤ length (now fullat)) × (length (now weight) ≤ length (now partat)) × (length (now touched) ≡ 8) ⌝ }
+    requires { ⌜ Lay (now first) (now mods) (now weight) (now nets) (now at) (now pins) (now mark) × Level (now mods) (now weight) (now sums) (now flow) × Thread (now mods) (now nets) (now mark) (now how) (now seen) (length (now weight)) z × (length (now seen) ≡ length (now weight)) × (length (now guide) ≡ numbers) × (length (now rows) ≡ words) ⌝ }
     ensures { λ _. ⌜ Thread (now (mods .entry)) (now (nets .entry)) (now (mark .entry)) (now (how .exit)) (now (seen .exit)) (length (now (weight .entry))) z ⌝ }
 {
     if v >= how.len() {
@@ -149,16 +148,14 @@ fn mend(
         sums,
         flow,
         &*seen,
-        dist,
-        fullat,
-        partat,
+        guide,
         v,
         &mut *how,
     );
     if x == 0 {
         return false;
     }
-    crate::rows::touch(nets, x, &mut *touched);
+    reach::touch(nets, flow::push::left_pin(x), &mut *rows);
     swap(
         mods,
         nets,
@@ -182,17 +179,15 @@ fn carry(
     at: &[u16],
     pins: &[u16],
     mark: &[u8],
-    dist: &[u16],
-    fullat: &[u16],
-    partat: &[u16],
+    guide: &[u16],
     z: usize,
     how: &mut [u64],
     seen: &mut [u16],
-    touched: &mut [u64],
+    rows: &mut [u64],
     sums: &mut [u32],
     flow: &mut [i32],
 ) -> usize
-    requires { ⌜ Lay (now first) (now mods) (now weight) (now nets) (now at) (now pins) (now mark) × Steady (cardOf (now first) (now mods) (now weight) (now mark)) (now mods) (now sums) (now flow) × Thread (now mods) (now nets) (now mark) (now how) (now seen) (length (now weight)) z × (getD (now mark) z 0 ≡ 2) × (length (now seen) ≡ length (now weight)) × (length (now dist) ≡ length (now mark)) × (length (now weight) ≤ length (now fullat)) × (length (now weight) ≤ length (now partat)) × (length (now touched) ≡ 8) ⌝ }
+    requires { ⌜ Lay (now first) (now mods) (now weight) (now nets) (now at) (now pins) (now mark) × Steady (cardOf (now first) (now mods) (now weight) (now mark)) (now mods) (now sums) (now flow) × Thread (now mods) (now nets) (now mark) (now how) (now seen) (length (now weight)) z × (getD (now mark) z 0 ≡ 2) × (length (now seen) ≡ length (now weight)) × (length (now guide) ≡ numbers) × (length (now rows) ≡ words) ⌝ }
     ensures { λ _. ⌜ Steady (cardOf (now (first .entry)) (now (mods .entry)) (now (weight .entry)) (now (mark .entry))) (now (mods .entry)) (now (sums .exit)) (now (flow .exit)) × Thread (now (mods .entry)) (now (nets .entry)) (now (mark .entry)) (now (how .exit)) (now (seen .exit)) (length (now (weight .entry))) z ⌝ }
 {
     let n = flow::push::push_from(mods, weight, nets, mark, &*how, z, &mut *sums, &mut *flow);
@@ -207,16 +202,14 @@ fn carry(
         at,
         pins,
         mark,
-        dist,
-        fullat,
-        partat,
+        guide,
         &*sums,
         &*flow,
         z,
         n.at,
         &mut *how,
         &mut *seen,
-        &mut *touched,
+        &mut *rows,
     );
     if mended { mark.len() } else { n.at }
 }
@@ -238,17 +231,15 @@ pub fn deliver(
     at: &[u16],
     pins: &[u16],
     mark: &[u8],
-    dist: &[u16],
-    fullat: &[u16],
-    partat: &[u16],
+    guide: &[u16],
     z: usize,
     how: &mut [u64],
     seen: &mut [u16],
-    touched: &mut [u64],
+    rows: &mut [u64],
     sums: &mut [u32],
     flow: &mut [i32],
 ) -> usize
-    requires { ⌜ Lay (now first) (now mods) (now weight) (now nets) (now at) (now pins) (now mark) × Steady (cardOf (now first) (now mods) (now weight) (now mark)) (now mods) (now sums) (now flow) × Thread (now mods) (now nets) (now mark) (now how) (now seen) (length (now weight)) z × (getD (now mark) z 0 ≡ 2) × (length (now seen) ≡ length (now weight)) × (length (now dist) ≡ length (now mark)) × (length (now weight) ≤ length (now fullat)) × (length (now weight) ≤ length (now partat)) × (length (now touched) ≡ 8) ⌝ }
+    requires { ⌜ Lay (now first) (now mods) (now weight) (now nets) (now at) (now pins) (now mark) × Steady (cardOf (now first) (now mods) (now weight) (now mark)) (now mods) (now sums) (now flow) × Thread (now mods) (now nets) (now mark) (now how) (now seen) (length (now weight)) z × (getD (now mark) z 0 ≡ 2) × (length (now seen) ≡ length (now weight)) × (length (now guide) ≡ numbers) × (length (now rows) ≡ words) ⌝ }
     ensures { λ v. ⌜ Steady (cardOf (now (first .entry)) (now (mods .entry)) (now (weight .entry)) (now (mark .entry))) (now (mods .entry)) (now (sums .exit)) (now (flow .exit)) × Thread (now (mods .entry)) (now (nets .entry)) (now (mark .entry)) (now (how .exit)) (now (seen .exit)) (length (now (weight .entry))) v ⌝ }
 {
     let mut stop = mark.len();
@@ -262,13 +253,11 @@ pub fn deliver(
             at,
             pins,
             mark,
-            dist,
-            fullat,
-            partat,
+            guide,
             z,
             &mut *how,
             &mut *seen,
-            &mut *touched,
+            &mut *rows,
             &mut *sums,
             &mut *flow,
         );

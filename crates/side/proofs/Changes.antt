@@ -2,7 +2,7 @@
 -- then the difference of two prices; it refuses exactly when document 01 says; and what lies beyond the needed bytes is not read. Assumes nothing.
 use Prim.Native.Nat.{ℕ}
 use mathlib.Core.Path.{_≡_, refl, sym, ap, ap₂, subst, _∙_}
-use mathlib.Core.Bool.{Bool, true, false, _&&_, true≢false, false≢true}
+use mathlib.Core.Bool.{Bool, true, false, true≢false, and-eq-true-iff}
 use mathlib.Core.List.{List}
 use native.Mathlib.Omega.{arith}
 use lib.Dec.{ltb, eqb}
@@ -38,11 +38,7 @@ module _ (s : List ℕ) (m : ℕ) where
 
   pub free-tells : isFree s m ≡ true → Free s m
   unfolding isFree
-  free-tells e = let p = two (ltb m (modules s)) (eqb (mark s m) 0) e in (ltb-true _ _ (p .0), eqb-true _ _ (p .1))
-    where
-      two : (a b : Bool) → (a && b) ≡ true → (a ≡ true) × (b ≡ true)
-      two true b e = (refl, e)
-      two false b e = absurd (false≢true e)
+  free-tells e = let p = and-eq-true-iff (ltb m (modules s)) (eqb (mark s m) 0) .0 e in (ltb-true _ _ (p .0), eqb-true _ _ (p .1))
 
   free-passes : Free s m → isFree s m ≡ true
   unfolding isFree

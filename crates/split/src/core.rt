@@ -80,8 +80,6 @@ pub fn lift(
     let n = weight.len();
     let mut how: [u64; Book::MODULES] = [0; Book::MODULES];
     let mut seen: [u16; Book::NETS] = [0; Book::NETS];
-    let mut dist: [u16; Book::MODULES] = [0; Book::MODULES];
-    let mut off: [u16; Book::MODULES] = [0; Book::MODULES];
     let mut sums: [u32; Book::NETS] = [0; Book::NETS];
     climb::climb::climb(
         first,
@@ -93,8 +91,6 @@ pub fn lift(
         mark,
         &mut how[..m],
         &mut seen[..n],
-        &mut dist[..m],
-        &mut off[..m],
         &mut sums[..n],
         flow,
     );

@@ -1,18 +1,18 @@
 -- `climb::onward::entry` meets its contract: `i` runs from `lo` up. Assumes nothing.
 use mathlib.Core.Path.{refl}
 use Prim.Native.Nat.{_≤_, _-_}
-use native.Mathlib.Omega.{arith}
-use borrow.Author.Needs.{needs}
 use Rattle.climb.proofs.Entries.{entry-of}
+use borrow.Author.Needs.{needs}
+use native.Mathlib.Omega.{arith}
 use Rattle.climb.proofs.onward.entry.Statement.{statement}
 use Rattle.climb.proofs.onward.entry.Tie as tie
 
 abbrev Inv-loop : tie.InvT-loop
-Inv-loop mods mark flow how dist look hi lower takes «open» i₀ i =
+Inv-loop mods mark flow how guide look hi lower takes «open» i₀ i =
     look .lo ≤ i
 
 abbrev μ-loop : tie.MeasureT-loop
-μ-loop mods mark flow how dist look hi lower takes «open» i₀ i =
+μ-loop mods mark flow how guide look hi lower takes «open» i₀ i =
     hi - i
 
 loop-holds : tie.Need-loop-holds Inv-loop μ-loop
@@ -29,19 +29,17 @@ wide-requires c κs = search needs
 
 mul-if1 : tie.Need-mul-if1 Inv-loop μ-loop
 mul-if1 c =
-    let good = c .before .before .before .before .before .before .before .before .good in
     let pre = c .before .before .before .before .before .before .before .before .pre in
     let loop = c .before .before .before .loop in
-    let loop-test = c .before .before .loop-test in
-    record { fits = omega (arith, c .wide .ensures, pre .3 (loop .i) (omega (arith, pre .0, loop-test .taken)), pre .5, good) }
+    let good = c .before .before .before .before .before .before .before .before .good in
+    record { fits = omega (arith, c .wide .ensures, pre .3 (loop .i) (omega (arith, pre .0, c .before .before .loop-test .taken)), pre .5, pre .6, good) }
 
 shared-slice-read-if1 : tie.Need-shared-slice-read-if1 Inv-loop μ-loop
 shared-slice-read-if1 c =
     let pre = c .before .before .before .before .before .before .before .before .before .pre in
     let loop = c .before .before .before .before .loop in
     let loop-test = c .before .before .before .loop-test in
-    let wide = c .before .wide in
-    omega (arith, wide .ensures, pre .3 (loop .i) (omega (arith, pre .0, loop-test .taken)), pre .5)
+    omega (arith, c .before .wide .ensures, pre .3 (loop .i) (omega (arith, pre .0, loop-test .taken)), pre .5, pre .6)
 
 mul-f : tie.Need-mul-f Inv-loop μ-loop
 mul-f c = search needs
@@ -51,27 +49,27 @@ shared-slice-copy-out-f c = search needs
 
 mul-if2 : tie.Need-mul-if2 Inv-loop μ-loop
 mul-if2 c =
-    let good = c .before .before .before .before .before .before .before .before .before .before .before .good in
+    let wide = c .before .before .before .wide in
     let pre = c .before .before .before .before .before .before .before .before .before .before .before .pre in
     let loop = c .before .before .before .before .before .before .loop in
     let loop-test = c .before .before .before .before .before .loop-test in
-    let wide = c .before .before .before .wide in
+    let good = c .before .before .before .before .before .before .before .before .before .before .before .good in
     record { fits = omega (arith, wide .ensures, pre .3 (loop .i) (omega (arith, pre .0, loop-test .taken)), pre .4, good) }
 
 shared-slice-read-if2 : tie.Need-shared-slice-read-if2 Inv-loop μ-loop
 shared-slice-read-if2 c =
+    let wide = c .before .before .before .before .wide in
     let pre = c .before .before .before .before .before .before .before .before .before .before .before .before .pre in
     let loop = c .before .before .before .before .before .before .before .loop in
     let loop-test = c .before .before .before .before .before .before .loop-test in
-    let wide = c .before .before .before .before .wide in
     omega (arith, wide .ensures, pre .3 (loop .i) (omega (arith, pre .0, loop-test .taken)), pre .4)
 
 shared-slice-read-if2-2 : tie.Need-shared-slice-read-if2-2 Inv-loop μ-loop
 shared-slice-read-if2-2 c =
+    let wide = c .before .before .before .before .before .wide in
     let pre = c .before .before .before .before .before .before .before .before .before .before .before .before .before .pre in
     let loop = c .before .before .before .before .before .before .before .before .loop in
     let loop-test = c .before .before .before .before .before .before .before .loop-test in
-    let wide = c .before .before .before .before .before .wide in
     omega (arith, wide .ensures, pre .3 (loop .i) (omega (arith, pre .0, loop-test .taken)))
 
 kind-to-requires : tie.Need-kind-to-requires Inv-loop μ-loop
@@ -90,9 +88,7 @@ returns c =
     let loop-test = c .before .before .before .before .before .before .before .before .before .before .before .loop-test in
     let wide = c .before .before .before .before .before .before .before .before .before .wide in
     let if2 = c .before .before .before .if2 in
-    let kind-to = c .before .before .kind-to in
-    let pack-from = c .before .pack-from in
-    λ _. entry-of (args .mods .now) (args .mark .now) (args .how .now) (args .look .lo) (args .look .hi) (args .look .takes) (args .look .open) _ (args .look .rank) (args .look .a) (record { low = loop .inv; high = loop-test .taken }) (wide .ensures) (if2 .taken) (kind-to .ensures) (pack-from .ensures) (c .pack .ensures)
+    λ _. entry-of (args .mods .now) (args .mark .now) (args .how .now) (args .look .lo) (args .look .hi) (args .look .takes) (args .look .open) _ (args .look .rank) (args .look .a) (record { low = loop .inv; high = loop-test .taken }) (wide .ensures) (if2 .taken) (c .before .before .kind-to .ensures) (c .before .pack-from .ensures) (c .pack .ensures)
 
 add-i : tie.Need-add-i Inv-loop μ-loop
 add-i c = search needs

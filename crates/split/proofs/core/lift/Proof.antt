@@ -10,34 +10,30 @@ array-borrow-prefix-how : tie.Need-array-borrow-prefix-how
 array-borrow-prefix-how c = search needs
 
 slice-aggregate-climb : tie.Need-slice-aggregate-climb
-slice-aggregate-climb c = sym (length-take-le _ _ (c .before .before .before .before .before .before .before .before .pre .0 .few-modules))
+slice-aggregate-climb c =
+    let pre = c .before .before .before .before .before .before .before .before .pre in
+    sym (length-take-le _ _ (pre .0 .few-modules))
 
 array-borrow-prefix-seen : tie.Need-array-borrow-prefix-seen
 array-borrow-prefix-seen c = search needs
 
 slice-aggregate-climb-2 : tie.Need-slice-aggregate-climb-2
-slice-aggregate-climb-2 c = sym (length-take-le _ _ (c .before .before .before .before .before .before .before .before .before .pre .0 .few-nets))
-
-array-borrow-prefix-dist : tie.Need-array-borrow-prefix-dist
-array-borrow-prefix-dist c = search needs
-
-slice-aggregate-climb-3 : tie.Need-slice-aggregate-climb-3
-slice-aggregate-climb-3 c = sym (length-take-le _ _ (c .before .before .before .before .before .before .before .before .before .before .pre .0 .few-modules))
-
-array-borrow-prefix-off : tie.Need-array-borrow-prefix-off
-array-borrow-prefix-off c = search needs
-
-slice-aggregate-climb-4 : tie.Need-slice-aggregate-climb-4
-slice-aggregate-climb-4 c = sym (length-take-le _ _ (c .before .before .before .before .before .before .before .before .before .before .before .pre .0 .few-modules))
+slice-aggregate-climb-2 c =
+    let pre = c .before .before .before .before .before .before .before .before .before .pre in
+    sym (length-take-le _ _ (pre .0 .few-nets))
 
 array-borrow-prefix-sums : tie.Need-array-borrow-prefix-sums
 array-borrow-prefix-sums c = search needs
 
-slice-aggregate-climb-5 : tie.Need-slice-aggregate-climb-5
-slice-aggregate-climb-5 c = sym (length-take-le _ _ (c .before .before .before .before .before .before .before .before .before .before .before .before .pre .0 .few-nets))
+slice-aggregate-climb-3 : tie.Need-slice-aggregate-climb-3
+slice-aggregate-climb-3 c =
+    let pre = c .before .before .before .before .before .before .before .before .before .before .pre in
+    sym (length-take-le _ _ (pre .0 .few-nets))
 
 climb-requires : tie.Need-climb-requires
-climb-requires c κs = (record { laid = c .before .before .before .before .before .before .before .before .before .before .before .before .before .pre .0 .laid; tables = c .before .before .before .before .before .before .before .before .before .before .before .before .before .pre .1; pins = omega (arith, c .before .before .before .before .before .before .before .before .before .before .before .before .before .pre .0 .few-pins); modules = omega (arith, c .before .before .before .before .before .before .before .before .before .before .before .before .before .pre .0 .few-modules) }, c .before .before .before .before .before .before .before .before .before .before .before .before .before .pre .0 .few-nets, record { how = length-take-le _ _ (c .before .before .before .before .before .before .before .before .before .before .before .before .before .pre .0 .few-modules); seen = length-take-le _ _ (c .before .before .before .before .before .before .before .before .before .before .before .before .before .pre .0 .few-nets); dist = length-take-le _ _ (c .before .before .before .before .before .before .before .before .before .before .before .before .before .pre .0 .few-modules); off = length-take-le _ _ (c .before .before .before .before .before .before .before .before .before .before .before .before .before .pre .0 .few-modules) }, length-take-le _ _ (c .before .before .before .before .before .before .before .before .before .before .before .before .before .pre .0 .few-nets), c .before .before .before .before .before .before .before .before .before .before .before .before .before .pre .2, c .before .before .before .before .before .before .before .before .before .before .before .before .before .pre .3)
+climb-requires c κs =
+    let pre = c .before .before .before .before .before .before .before .before .before .before .before .pre in
+    (record { laid = pre .0 .laid; tables = pre .1; few-pins = omega (arith, pre .0 .few-pins); few-modules = pre .0 .few-modules; few-nets = pre .0 .few-nets }, record { how = length-take-le _ _ (pre .0 .few-modules); seen = length-take-le _ _ (pre .0 .few-nets) }, length-take-le _ _ (pre .0 .few-nets), pre .2, pre .3)
 
 same-length : tie.Need-same-length
 same-length c = search needs
@@ -53,12 +49,8 @@ lift-spec =
     slice-aggregate-climb
     array-borrow-prefix-seen
     slice-aggregate-climb-2
-    array-borrow-prefix-dist
-    slice-aggregate-climb-3
-    array-borrow-prefix-off
-    slice-aggregate-climb-4
     array-borrow-prefix-sums
-    slice-aggregate-climb-5
+    slice-aggregate-climb-3
     climb-requires
     same-length
     returns)

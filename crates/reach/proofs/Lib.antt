@@ -1,0 +1,2 @@
+-- The laws of the rows, a file a subject.
+pub mod Places

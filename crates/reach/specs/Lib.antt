@@ -1,0 +1,2 @@
+-- What the contracts of `reach` cite.
+pub mod Work
