@@ -4,8 +4,10 @@ use mathlib.Core.Path.{_≡_, refl, sym, ap, ap₂, _∙_, subst}
 use mathlib.Core.Bool.{Bool, true, cond}
 use mathlib.Core.List.{List, [], _∷_, _++_}
 use Prim.Native.Nat.{ℕ, zero, suc, _+_, _*_, _≤_, _<_}
+use native.Mathlib.Nat.{le-refl}
 use native.Mathlib.Omega.{arith}
 use lib.ListN.{length, getD, length-append}
+use lib.Seq.{length-paste}
 use borrow.Author.Tests.{eq-eqb, ne-eqb}
 use Rattle.line.specs.Card.{Alike, areaTo, price}
 use Rattle.line.proofs.Area.{areaTo-most}
@@ -16,6 +18,7 @@ use Rattle.book.specs.Sound.{Sound}
 use Rattle.book.specs.Cards.{cardOf, netsOf}
 use Rattle.book.proofs.CardLaws.{card-valid}
 use Rattle.book.proofs.Elements.{length-listed, getD-listed}
+use Rattle.book.proofs.Pasted.{paste-then, paste-front}
 use Rattle.side.specs.Sides.{sideOf, SpareClear}
 use Rattle.gate.specs.Gates.{bandSays}
 use Rattle.gate.specs.declared.Band.{Band}
@@ -29,7 +32,6 @@ use Rattle.walk.specs.Runs.{outcomeOf, Ran}
 use Rattle.walk.proofs.Rounds.{freeTo-same}
 use Rattle.walk.proofs.Loop.{Stands, start, walks-marks, round-stops, round-ends, round-goes, round-measure, stands-room}
 use Rattle.walk.proofs.Call.{rows-length, rows-more, row-length}
-use Rattle.walk.proofs.Bytes.{over-then, over-front, over-at-length}
 
 ones : (n : ℕ) → areaTo (λ m. 1) (λ m. true) n ≡ n
 unfolding areaTo
@@ -40,8 +42,8 @@ ones (suc n) = omega (arith, ones n)
 row-after : (rs : List Row) (r : Row) (old : List ℕ) → 12 * length rs + 12 ≤ length old → overAt (12 * length rs) (rowBytes r) (over (rowsBytes rs) old) ≡ over (rowsBytes (rs ++ (r ∷ []))) old
 row-after rs r old h =
     let e : 0 + length (rowsBytes rs) ≡ 12 * length rs = omega (arith, rows-length rs) in
-    ap₂ (λ (n : ℕ) (l : List ℕ). overAt n (rowBytes r) l) (sym e) (sym (over-front (rowsBytes rs) old))
-    ∙ over-then 0 (rowsBytes rs) (rowBytes r) old (omega (arith, rows-length rs)) ∙ over-front (rowsBytes rs ++ rowBytes r) old ∙ ap (λ (l : List ℕ). over l old) (sym (rows-more rs r))
+    ap₂ (λ (n : ℕ) (l : List ℕ). overAt n (rowBytes r) l) (sym e) (sym (paste-front (rowsBytes rs) old))
+    ∙ paste-then 0 (rowsBytes rs) (rowBytes r) old (omega (arith, rows-length rs)) ∙ paste-front (rowsBytes rs ++ rowBytes r) old ∙ ap (λ (l : List ℕ). over l old) (sym (rows-more rs r))
 
 -- the loaded marks are the book's
 pub loaded-alike : (s k : List ℕ) → k ≡ listed (mark s) (modules s) → Alike (modules s) (marksOf k) (mark s)
@@ -93,7 +95,7 @@ module _ (s : List ℕ) (sound : Sound s) (b : Band) (k₀ : List ℕ) (old : Li
       going-again i e f t = record {
         begins = g .begins;
         marked = o .marked;
-        long = ap length put ∙ over-at-length (12 * n) (rowBytes r) new (omega (arith, going-room room, row-length r)) ∙ g .long;
+        long = ap length put ∙ length-paste new (12 * n) (rowBytes r) (length (rowBytes r)) (omega (arith, going-room room, row-length r)) (le-refl (length (rowBytes r))) ∙ g .long;
         goes = λ v h. let q = g .goes v h in record {
           rounds = q .rounds ++ (r ∷ []);
           stands = round-goes (cardOf s) (card-valid s sound) (area s) v (marksOf k₀) (q .rounds) (marksOf k) (q .stands) (sideOf x) r (marksOf l) (o .round v h) f t;

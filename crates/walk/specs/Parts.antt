@@ -1,9 +1,10 @@
 -- What the parts of a round leave in their rows of bytes. This page holds definitions only.
 use mathlib.Core.Path.{_≡_}
 use mathlib.Core.Bool.{Bool, true, false, _&&_, _||_}
-use mathlib.Core.List.{List, _++_}
-use Prim.Native.Nat.{ℕ, _+_, _<_}
-use lib.ListN.{length, getD, take, drop}
+use mathlib.Core.List.{List}
+use Prim.Native.Nat.{ℕ, _<_}
+use lib.ListN.{length, getD}
+use lib.Seq.{paste}
 use Rattle.line.specs.Card.{Side, outside, touches, crosses, pin}
 use Rattle.line.specs.Flow.{only}
 use Rattle.book.specs.First.{orElse, lowest}
@@ -58,4 +59,4 @@ pub record Pinned (n : ℕ) (y : Side) (i : ℕ) (old new : List ℕ) : Type 0 w
 
 -- The bytes with new ones written over them from a place on.
 abbrev pub overAt : ℕ → List ℕ → List ℕ → List ℕ
-overAt at new old = take at old ++ new ++ drop (at + length new) old
+overAt at new old = paste old at new (length new)

@@ -1,5 +1,5 @@
 -- `view::text::put_text` meets its contract: the bytes before `i` stand. Assumes nothing.
-use Rattle.view.proofs.Puts.{put-more}
+use Rattle.book.proofs.Pasted.{paste-more}
 use lib.ListN.{length, getD, set}
 use mathlib.Core.List.{List}
 use lib.Seq.{paste, paste-zero, length-paste}
@@ -44,7 +44,7 @@ loop-again c =
     let b = c .before .before .before in
     let a = b .args in
     let l = c .before .before .loop in
-    (omega arith, ap (λ (d : List ℕ). set d (a .at + l .i) (getD (a .text .now) (l .i) 0)) (l .inv .1) ∙ put-more (a .at) (l .i) (a .text .now) (a .out .now) (omega (arith, b .pre)) (omega arith))
+    (omega arith, ap (λ (d : List ℕ). set d (a .at + l .i) (getD (a .text .now) (l .i) 0)) (l .inv .1) ∙ paste-more (a .at) (l .i) 0 (a .text .now) (a .out .now) (omega (arith, b .pre)) (omega arith))
 
 add-result : tie.Need-add-result Inv-loop μ-loop
 add-result c = omega (arith, c .before .before .pre)

@@ -1,9 +1,11 @@
 -- `walk::rows::copy` meets its contract: the bytes before `i` are copied. Assumes nothing.
-use Rattle.walk.proofs.Bytes.{copy-next, copy-start, copied, copy-long}
-use Rattle.walk.specs.Parts.{overAt}
-use lib.ListN.{take}
-use Prim.Native.Nat.{_-_, _≤_}
-use mathlib.Core.Path.{_≡_, refl}
+use mathlib.Core.List.{List, _++_}
+use lib.ListN.{length, getD, take, drop, set}
+use lib.Seq.{paste, paste-zero, length-paste, length-take-le}
+use Rattle.book.proofs.Pasted.{paste-more}
+use Rattle.walk.specs.Call.{over}
+use Prim.Native.Nat.{ℕ, _+_, _-_, _≤_}
+use mathlib.Core.Path.{_≡_, ap, ap₂, _∙_}
 use borrow.Author.Needs.{needs}
 use native.Mathlib.Omega.{arith}
 use Rattle.walk.proofs.rows.copy.Statement.{statement}
@@ -11,23 +13,24 @@ use Rattle.walk.proofs.rows.copy.Tie as tie
 
 abbrev Inv-loop : tie.InvT-loop
 Inv-loop from n to₀ i₀ to i =
-    (i ≤ n) × (to ≡ overAt 0 (take i from) to₀)
+    (i ≤ n) × (to ≡ paste to₀ 0 from i)
 
 abbrev μ-loop : tie.MeasureT-loop
 μ-loop from n to₀ i₀ to i =
     n - i
 
 loop-holds : tie.Need-loop-holds Inv-loop μ-loop
-loop-holds c = (omega arith, copy-start (c .args .from .now) (c .args .to .now))
+loop-holds c = (omega arith, paste-zero (c .args .to .now) 0 (c .args .from .now))
 
 shared-slice-read-to : tie.Need-shared-slice-read-to Inv-loop μ-loop
 shared-slice-read-to c = search needs
 
 slice-write-to : tie.Need-slice-write-to Inv-loop μ-loop
 slice-write-to c =
+    let a = c .before .before .before .args in
     let p = c .before .before .before .pre in
-    let i = c .before .before .loop in
-    omega (arith, copy-long _ _ _ (i .i) (i .inv .1) (omega (arith, p)) (omega (arith, p)), p)
+    let l = c .before .before .loop in
+    omega (arith, p, length-paste (a .to .now) 0 (a .from .now) (l .i) (omega (arith, p)) (omega (arith, p)), ap length (l .inv .1))
 
 add-i : tie.Need-add-i Inv-loop μ-loop
 add-i c = search needs
@@ -39,20 +42,25 @@ loop-again : tie.Need-loop-again Inv-loop μ-loop
 loop-again c =
     let a = c .before .before .before .args in
     let p = c .before .before .before .pre in
-    let i = c .before .before .loop in
-    (omega arith, copy-next (a .from .now) (a .to .now) (i .to) (i .i) _ (omega (arith, p)) (omega (arith, p)) refl (i .inv .1))
+    let l = c .before .before .loop in
+    let z : l .i ≡ 0 + l .i = omega arith in
+    (omega arith, ap₂ (λ (d : List ℕ) (i : ℕ). set d i (getD (a .from .now) (l .i) 0)) (l .inv .1) z ∙ paste-more 0 (l .i) 0 (a .from .now) (a .to .now) (omega (arith, p)) (omega (arith, p)))
 
 same-length : tie.Need-same-length Inv-loop μ-loop
 same-length c =
     let a = c .before .before .args in
     let p = c .before .before .pre in
-    copy-long (a .from .now) (a .to .now) (c .before .loop .to) (c .before .loop .i) (c .before .loop .inv .1) (omega (arith, p)) (omega (arith, p))
+    let l = c .before .loop in
+    ap length (l .inv .1) ∙ length-paste (a .to .now) 0 (a .from .now) (l .i) (omega (arith, p)) (omega (arith, p))
 
 returns : tie.Need-returns Inv-loop μ-loop
 returns c =
     let a = c .before .before .args in
     let p = c .before .before .pre in
-    copied (a .from .now) (a .to .now) (c .before .loop .to) (c .before .loop .i) (a .n) (c .before .loop .inv .1) (omega arith) (omega (arith, p))
+    let l = c .before .loop in
+    let long : 0 + l .i ≡ length (take (l .i) (a .from .now)) = omega (arith, length-take-le (l .i) (a .from .now) (omega (arith, p))) in
+    let e : l .i ≡ a .n = omega arith in
+    l .inv .1 ∙ ap (λ (n : ℕ). take (l .i) (a .from .now) ++ drop n (a .to .now)) long ∙ ap (λ (i : ℕ). over (take i (a .from .now)) (a .to .now)) e
 
 pub copy-spec : {M : Type 1} → statement M
 copy-spec =
