@@ -1,4 +1,6 @@
 // The checker: a flow, a side and a claimed price against a book, whoever made them. Any numbers of 32 bits, and no sum wraps.
+#![tactic(auto)]
+
 ghost use Rattle.std.specs.Prelude.{◌≡◌, cond, ℕ, ◌+◌, ◌*◌, ◌≤◌, ◌<◌, length, get_or, set, ℤ};
 ghost use Rattle.line.specs.Flow.{sent, taken, meters};
 ghost use Rattle.book.specs.Format.{modules};

@@ -66,8 +66,8 @@ module _ (s : List ℕ) where
   pub pins-length : (e : ℕ) → length (pins_of s e) ≡ pin_count s e
   pins-length e = length-listed (pin_of s e) (pin_count s e)
 
-  pub pin_of : (e j : ℕ) → j < pin_count s e → get_or (pins_of s e) j 0 ≡ pin_of s e j
-  pin_of e j l = get_or-listed (pin_of s e) (pin_count s e) j 0 l
+  pub pins-at : (e j : ℕ) → j < pin_count s e → get_or (pins_of s e) j 0 ≡ pin_of s e j
+  pins-at e j l = get_or-listed (pin_of s e) (pin_count s e) j 0 l
 
   under : (e : ℕ) → e < nets s → e < length (nets_of s)
   under e l = omega (arith, nets-length)
@@ -93,7 +93,7 @@ module _ (s : List ℕ) where
       let k : j < length (net_at (nets_of s) e).pins = omega (arith, long e q.under, q.within) in
       let h : start (nets_of s) e + j ≡ p = omega (arith, start_is e (omega (arith, q.under)), q.place) in
       ap (λ (i : ℕ). get_or (all_pins (nets_of s)) i 0) (sym h) ∙ pin_at (nets_of s) e (under e q.under) j k
-      ∙ ap (λ (n : Net). get_or n.pins j 0) (net-at e q.under) ∙ pin_of e j q.within ∙ ap (pin s) (sym q.place)
+      ∙ ap (λ (n : Net). get_or n.pins j 0) (net-at e q.under) ∙ pins-at e j q.within ∙ ap (pin s) (sym q.place)
 
   -- the pin body is the card's pins, net after net
   pub all-pins : all_pins (nets_of s) ≡ listed (pin s) (first_pin s (nets s))
@@ -124,7 +124,7 @@ module _ (s : List ℕ) where
   pub touches-next : (x : Side) (e j : ℕ) → j < pin_count s e → touches x (take (j + 1) (pins_of s e)) ≡ (touches x (take j (pins_of s e)) || x (pin_of s e j))
   touches-next x e j l =
       rw add-one
-      (touches-suc x (pins_of s e) j (omega (arith, pins-length e)) ∙ ap (λ (m : ℕ). touches x (take j (pins_of s e)) || x m) (pin_of e j l))
+      (touches-suc x (pins_of s e) j (omega (arith, pins-length e)) ∙ ap (λ (m : ℕ). touches x (take j (pins_of s e)) || x m) (pins-at e j l))
 
   pub touches-all : (x : Side) (e : ℕ) → touches x (take (pin_count s e) (pins_of s e)) ≡ touches x (pins_of s e)
   touches-all x e = ap (touches x) (take_all (pin_count s e) (pins_of s e) (omega (arith, pins-length e)))

@@ -1,4 +1,6 @@
 // The book reader: checks 1 to 6 of document 01 on any bytes, and the numbers that stand in a book that is laid out right.
+#![tactic(auto)]
+
 mod checks;
 
 ghost use Rattle.std.specs.Prelude.{◌≡◌, ℕ, ◌+◌, ◌*◌, ◌<◌, ◌≤◌, length, get_or};

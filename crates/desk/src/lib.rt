@@ -1,4 +1,6 @@
 // The C interface: each exported function makes one call and hands its answer over as eight numbers.
+#![tactic(auto)]
+
 ghost use Rattle.std.specs.Prelude.{◌≡◌, ◌∷◌, [], ◌≤◌, pos};
 ghost use Rattle.book.specs.Answer.{number_of, place_of};
 ghost use Rattle.book.specs.Checks.{most_pins};

@@ -1,4 +1,6 @@
 // The gate of the balancing walk: which gates are good, the worked-out gate, and what it says of an area.
+#![tactic(auto)]
+
 ghost use Rattle.std.specs.Prelude.{◌≡◌};
 ghost use Rattle.gate.specs.Gates.{good_gate, share_low, share_high, band_of, band_says};
 

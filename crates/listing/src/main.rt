@@ -1,4 +1,6 @@
 // Prints the listing of the book on standard input. It reads one byte more than the largest book has, and no further.
+#![tactic(auto)]
+
 use libc::{STDIN_FILENO, STDOUT_FILENO};
 
 // Writes the listing of what came in to standard output.

@@ -1,4 +1,6 @@
 // How far each module is from the makers, in steps on a flow as it is, and by which nets: a guide alone. Its numbers are promised to stay in what is lent and nothing more, so that a wrong one costs time and nothing else.
+#![tactic(auto)]
+
 mod levels;
 mod rows;
 mod sets;

@@ -1,4 +1,6 @@
 // A side: a row of bits in lent bytes, module m at bit m mod 8 of byte m div 8. Its count, its area, its price, and what a move changes.
+#![tactic(auto)]
+
 ghost use Rattle.std.specs.Prelude.{◌≡◌, cond, ◌*◌, ◌/◌, ◌≤◌, ◌<◌, length, pos, ◌-ℤ◌};
 ghost use Rattle.line.specs.Card.{crosses, cost, price, count_to};
 ghost use Rattle.book.specs.Checks.{most_modules};

@@ -1,4 +1,6 @@
 // The split of a book: its near side, its far side, their price, and a fair flow of that value.
+#![tactic(auto)]
+
 pub mod bits;
 pub mod core;
 pub mod load;

@@ -1,4 +1,6 @@
 // The desk's table, run: each case prints its name and its answer, and the file `stdout` has what they should be.
+#![tactic(auto)]
+
 mod checks;
 mod make;
 mod reader;

@@ -1,4 +1,6 @@
 // The desk's table on the split: each case prints its name, the price, both sides, and whether the checker accepts the flow with each side; the file `stdout` has what they should be.
+#![tactic(auto)]
+
 mod lent;
 mod make;
 mod refusals;

@@ -1,4 +1,6 @@
 // The desk's table on the gate and the walk: each case prints its name, the answer, the rows and the side; the file `stdout` has what they should be.
+#![tactic(auto)]
+
 mod gates;
 mod lent;
 mod make;

@@ -1,4 +1,6 @@
 // The balancing walk.
+#![tactic(auto)]
+
 ghost use Rattle.core.specs.Prelude.{◌≡◌, ◌≤◌, length};
 ghost use Rattle.book.specs.Sound.{Sound};
 ghost use Rattle.side.specs.Given.{Lent};

@@ -1,0 +1,52 @@
+-- `book::bad_net` meets its contract: no net before `n` is bad, and `sum` is where the pins of net `n` begin. Assumes nothing.
+use Prim.Native.Nat.{◌≤◌, ◌-◌, ◌*◌}
+use mathlib.Core.Path.{◌≡◌, refl, sym, ◌∙◌, ap}
+use borrow.Author.Rules.{rules}
+use native.Mathlib.Omega.{arith}
+use borrow.Author.Tests.{eq-eqb, ne_eqb}
+use native.Mathlib.Numerals.{add-one}
+use Rattle.book.specs.declared.Found.TheVariants.{At, Nothing}
+use Rattle.book.specs.First.{first, lowest}
+use Rattle.book.specs.Format.{first_pin, nets, pins}
+use Rattle.book.specs.Checks.{bad_net, check4}
+use Rattle.book.proofs.Firsts.{lowest-more, lowest-found, lowest-ended}
+use Rattle.book.proofs.checks.bad_net.Goals as goal
+
+pub loop-n-init : goal.loop-n-init
+unfolding lowest first first_pin
+loop-n-init c = (omega arith, refl, refl, omega arith)
+
+pub returns-then-net_is_bad : goal.returns-then-net_is_bad
+unfolding check4
+returns-then-net_is_bad c =
+    let i = c.loop-n in
+    let s = c.args.book.now in
+    rw (lowest-found (bad_net s) i.n (nets s) i.invariant.1 (sym c.net_is_bad.ensures ∙ c.if-net_is_bad.true) (omega arith))
+
+pub loop-n-preserved : goal.loop-n-preserved
+unfolding first_pin
+loop-n-preserved c =
+    let i = c.loop-n in (
+      omega arith,
+      lowest-more _ i.n i.invariant.1 (sym c.net_is_bad.ensures ∙ c.if-net_is_bad.false),
+      rw add-one (omega arith),
+      omega arith,
+    )
+
+pub returns-then-sum-pins : goal.returns-then-sum-pins
+unfolding check4
+returns-then-sum-pins c =
+    let i = c.loop-n in
+    let s = c.args.book.now in
+    let e : i.n ≡ nets s = omega arith in
+    let h : first_pin s (nets s) ≡ pins s = ap (first_pin s) (sym e) ∙ sym i.invariant.2 ∙ c.if-sum-pins.true ∙ c.pins.ensures in
+    rw (lowest-ended (bad_net s) i.n (nets s) i.invariant.1 e, eq-eqb _ _ h)
+
+pub returns-else-sum-pins : goal.returns-else-sum-pins
+unfolding check4
+returns-else-sum-pins c =
+    let i = c.loop-n in
+    let s = c.args.book.now in
+    let e : i.n ≡ nets s = omega arith in
+    rw (lowest-ended (bad_net s) i.n (nets s) i.invariant.1 e, ne_eqb (first_pin s (nets s)) (pins s) (λ q. c.if-sum-pins.false (i.invariant.2 ∙ ap (first_pin s) e ∙ q ∙ sym c.pins.ensures)))
+    (ap At c.nets-count.ensures)

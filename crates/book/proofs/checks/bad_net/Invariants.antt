@@ -1,0 +1,20 @@
+-- `book::bad_net` meets its contract: no net before `n` is bad, and `sum` is where the pins of net `n` begin. Assumes nothing.
+use Prim.Native.Nat.{◌≤◌, ◌-◌, ◌*◌}
+use mathlib.Core.Path.{◌≡◌, refl, sym, ◌∙◌, ap}
+use borrow.Author.Rules.{rules}
+use native.Mathlib.Omega.{arith}
+use borrow.Author.Tests.{eq-eqb, ne_eqb}
+use native.Mathlib.Numerals.{add-one}
+use Rattle.book.specs.declared.Found.TheVariants.{At, Nothing}
+use Rattle.book.specs.First.{first, lowest}
+use Rattle.book.specs.Format.{first_pin, nets, pins}
+use Rattle.book.specs.Checks.{bad_net, check4}
+use Rattle.book.proofs.Firsts.{lowest-more, lowest-found, lowest-ended}
+use Rattle.book.proofs.checks.bad_net.Given as goal
+
+abbrev pub invariant-loop-n : goal.invariant-loop-n
+invariant-loop-n l =
+    (l.n ≤ l.count) × (lowest (bad_net l.book) l.n ≡ Nothing) × (l.sum ≡ first_pin l.book l.n) × (l.sum ≤ 65536 * l.n)
+
+abbrev pub decreases-loop-n : goal.decreases-loop-n
+decreases-loop-n l = l.count - l.n

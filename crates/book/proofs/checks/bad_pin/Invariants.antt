@@ -1,0 +1,26 @@
+-- `book::bad_pin` meets its contract: no net before `n` has a bad pin, none of net `n` before `j` is bad, and `p` is the index of pin `j`
+-- of net `n`. Assumes nothing.
+use Prim.Native.Nat.{◌+◌, ◌≤◌, ◌<◌, ◌-◌}
+use mathlib.Core.Path.{◌≡◌, refl, sym, ◌∙◌, ap}
+use borrow.Author.Rules.{rules}
+use native.Mathlib.Omega.{arith}
+use native.Mathlib.Numerals.{add-one}
+use Rattle.book.specs.declared.Found.TheVariants.{At, Nothing}
+use Rattle.book.specs.First.{first, lowest}
+use Rattle.book.specs.Format.{first_pin, nets, pins, pin_count}
+use Rattle.book.specs.Checks.{bad_pin_of, bad_pins, check5}
+use Rattle.book.proofs.Firsts.{lowest-more, lowest-found, lowest-ended, first_more, first_found}
+use Rattle.book.proofs.CardLaws.{pin-before}
+use Rattle.book.proofs.checks.bad_pin.Given as goal
+
+abbrev pub invariant-loop-j : goal.invariant-loop-j
+invariant-loop-j l = (l.j ≤ l.many) × (l.p ≡ first_pin l.book l.n + l.j) × (lowest (bad_pin_of l.book l.n) l.j ≡ Nothing)
+
+abbrev pub decreases-loop-j : goal.decreases-loop-j
+decreases-loop-j l = l.many - l.j
+
+abbrev pub invariant-nets : goal.invariant-nets
+invariant-nets l = (l.n ≤ l.count) × (l.p ≡ first_pin l.book l.n) × (first (bad_pins l.book) l.n ≡ Nothing)
+
+abbrev pub decreases-nets : goal.decreases-nets
+decreases-nets l = l.count - l.n

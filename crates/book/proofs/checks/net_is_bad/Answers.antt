@@ -1,0 +1,7 @@
+use borrow.Author.Rules.{rules}
+use Rattle.book.specs.Checks.{bad_net}
+use Rattle.book.proofs.checks.net_is_bad.Goals as goal
+
+pub returns : goal.returns
+unfolding bad_net
+returns c = rw (c.weight.ensures.0, c.pin_count.ensures.0)

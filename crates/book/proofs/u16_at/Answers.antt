@@ -1,0 +1,19 @@
+use borrow.Author.Rules.{rules}
+use native.Mathlib.Omega.{arith}
+use mathlib.Core.Path.{sym, ◌∙◌}
+use Rattle.book.specs.Format.{u16}
+use Rattle.book.proofs.Strides.{goes, ends}
+use Rattle.book.proofs.u16_at.Goals as goal
+
+pub returns-in-Number : goal.returns-in-Number
+returns-in-Number c =
+    let a = c.args in
+    let n = c.n-1.given in
+    let g = goes 2 u16 a.book.now a.i n.0.0 _ (sym c.next_u16.ensures.0 ∙ n.1) in
+    (g.is, rw n.1 at c.next_u16.ensures.1)
+
+pub returns-in-End : goal.returns-in-End
+returns-in-End c =
+    let a = c.args in
+    let h = ends 2 u16 a.book.now a.i (sym c.next_u16.ensures.0 ∙ c.in-End.is) in
+    absurd (omega arith)

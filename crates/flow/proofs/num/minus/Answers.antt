@@ -1,0 +1,11 @@
+-- `flow::num::minus` meets its contract. Assumes nothing.
+use lib.IntN.{neg_ℤ}
+use borrow.Author.Rules.{rules}
+use Rattle.flow.proofs.Numbers.{shift-ok, shift_is, minus-fits}
+use Rattle.flow.proofs.num.minus.Goals as goal
+
+pub overflow_sub-result : goal.overflow_sub-result
+overflow_sub-result c = shift-ok neg_ℤ c.args.f c.args.d c.ranges.f c.requires.1 (minus-fits c.args.f c.args.d c.requires.0 c.requires.1)
+
+pub returns : goal.returns
+returns c = shift_is neg_ℤ c.args.f c.args.d c.ranges.f c.requires.1 (minus-fits c.args.f c.args.d c.requires.0 c.requires.1)

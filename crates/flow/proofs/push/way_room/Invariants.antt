@@ -1,0 +1,19 @@
+-- `flow::push::way_room` meets its contract: `n.room` and the room from `u` on are the room of the whole way; the measure is the rank of `u`. Assumes nothing.
+use mathlib.Core.Path.{◌≡◌, sym, ap, ap₂, ◌∙◌, subst}
+use Prim.Native.Nat.{ℕ, suc, min, ◌≤◌, ◌<◌}
+use native.Mathlib.Omega.{arith}
+use lib.ListN.{length, get_or}
+use borrow.Author.Rules.{rules}
+use Rattle.flow.specs.Push.{way_room}
+use Rattle.flow.specs.Search.{In, left, rank}
+use Rattle.flow.proofs.PushLaws.{least-top, way-more, way_end}
+use Rattle.flow.proofs.Sets.{in-length}
+use Rattle.flow.proofs.push.way_room.Given as goal
+
+abbrev pub invariant-loop-u : goal.invariant-loop-u
+invariant-loop-u l =
+    In l.how l.u × (l.n.room ≤ 65535) × ((k : ℕ) × (rank (get_or l.how l.u 0) < k) × (min l.n.room (way_room l.mods l.weight l.nets l.mark l.how l.sums l.flow k l.u) ≡ way_room l.mods l.weight l.nets l.mark l.how l.sums l.flow (suc (length l.mark)) l.z))
+
+abbrev pub decreases-loop-u : goal.decreases-loop-u
+decreases-loop-u l =
+    rank (get_or l.how l.u 0)

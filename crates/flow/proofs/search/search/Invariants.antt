@@ -1,0 +1,17 @@
+-- `flow::search::search` meets its contract: `Bfs`, with the queue's head and tail; the measure is the modules that the head has not passed. Assumes nothing.
+use mathlib.Core.Path.{sym, ◌∙◌, subst}
+use Prim.Native.Nat.{ℕ, ◌-◌}
+use native.Mathlib.Omega.{arith}
+use lib.ListN.{length}
+use borrow.Author.Rules.{rules}
+use Rattle.flow.specs.Search.{st, Whole}
+use Rattle.flow.proofs.SearchLaws.{Bfs, bfs-start, bfs-room, bfs-more, bfs-end, bfs-low}
+use Rattle.flow.proofs.search.search.Given as goal
+
+abbrev pub invariant-loop-head : goal.invariant-loop-head
+invariant-loop-head l =
+    Bfs l.back l.first l.mods l.weight l.flow l.sums l.nets l.mark (st l.queue l.how l.seen) l.head l.tail
+
+abbrev pub decreases-loop-head : goal.decreases-loop-head
+decreases-loop-head l =
+    length l.mark - l.head

@@ -1,0 +1,61 @@
+use Rattle.flow.proofs.SpreadLaws.{spread_none, spread-skip, spread-mark, ranked, marks}
+use Rattle.flow.proofs.Numbers.{read-sends, read-from}
+use Rattle.flow.proofs.Sets.{in-of, clash}
+use Rattle.flow.specs.Search.{Spread}
+use lib.IntN.{pos}
+use lib.ListN.{get_or}
+use Prim.Native.Nat.{ℕ, ◌≤◌, ◌-◌}
+use native.Mathlib.Nat.{le_antisymm}
+use mathlib.Core.Logic.{⊎_elim}
+use mathlib.Core.Path.{sym, ◌∙◌, subst}
+use borrow.Author.Rules.{rules}
+use native.Mathlib.Omega.{arith}
+use Rattle.flow.proofs.search.spread.Goals as goal
+
+pub loop-i-init : goal.loop-i-init
+loop-i-init c = (omega arith, omega arith, spread_none _ _ _ _ _ _ _ _ _ _)
+
+pub offset_bounds-how-m : goal.offset_bounds-how-m
+offset_bounds-how-m c = record { fits = omega (arith, c.requires.6.below c.loop-i.i (omega arith), c.requires.6.few, c.wide-m.ensures) }
+
+pub bounds-how-m : goal.bounds-how-m
+bounds-how-m c = ranked c.requires.6 c.loop-i.invariant.2.grown c.loop-i.i c.wide-m.result (omega arith) c.wide-m.ensures
+
+pub offset_bounds-queue-tail : goal.offset_bounds-queue-tail
+offset_bounds-queue-tail c = record { fits = omega (arith, (marks c.requires.6 c.loop-i.invariant.2.grown c.wide-m.result (ranked c.requires.6 c.loop-i.invariant.2.grown c.loop-i.i c.wide-m.result (omega arith) c.wide-m.ensures) c.if-how-m-eq0.true).few) }
+
+pub bounds-queue-tail : goal.bounds-queue-tail
+bounds-queue-tail c = (marks c.requires.6 c.loop-i.invariant.2.grown c.wide-m.result (ranked c.requires.6 c.loop-i.invariant.2.grown c.loop-i.i c.wide-m.result (omega arith) c.wide-m.ensures) c.if-how-m-eq0.true).tail
+
+pub way_from-from-requires : goal.way_from-from-requires
+way_from-from-requires c = (c.requires.4, c.requires.5)
+
+pub pack-requires : goal.pack-requires
+pack-requires c = (omega (arith, (marks c.requires.6 c.loop-i.invariant.2.grown c.wide-m.result (ranked c.requires.6 c.loop-i.invariant.2.grown c.loop-i.i c.wide-m.result (omega arith) c.wide-m.ensures) c.if-how-m-eq0.true).few), c.way_from-from.ensures.1, omega arith)
+
+pub offset_bounds-how-m-then-g : goal.offset_bounds-how-m-then-g
+offset_bounds-how-m-then-g c = record { fits = omega (arith, c.requires.6.below c.loop-i.i (omega arith), c.requires.6.few, c.wide-m.ensures) }
+
+pub bounds-how-m-then-g : goal.bounds-how-m-then-g
+bounds-how-m-then-g c = ranked c.requires.6 c.loop-i.invariant.2.grown c.loop-i.i c.wide-m.result (omega arith) c.wide-m.ensures
+
+pub loop-i-preserved : goal.loop-i-preserved
+loop-i-preserved c = let z = get_or c.args.flow.now c.loop-i.i (pos 0) in
+    let k = ranked c.requires.6 c.loop-i.invariant.2.grown c.loop-i.i c.wide-m.result (omega arith) c.wide-m.ensures in (
+      omega arith,
+      omega arith,
+      ⊎_elim (λ w. let f = marks c.requires.6 c.loop-i.invariant.2.grown c.wide-m.result k w.0.taken in
+          rw (w.8, w.9, w.10) (spread-mark _ _ _ _ _ _ _ c.loop-i.invariant.2 c.loop-i.invariant.0 (sym (w.2.ensures ∙ read-sends c.args.scan.all c.args.scan.back z w.1.given) ∙ w.3.taken)
+          c.wide-m.result c.wide-m.ensures w.0.taken f.place f.tail (w.6.ensures.0 ∙ read-from c.args.scan.back z c.args.scan.from c.args.scan.undo w.5.given) (omega (arith, w.6.ensures.1, c.requires.3, c.loop-i-test.true)) w.7.ensures (sym c.wide-m.ensures)))
+          (⊎_elim (λ w. rw (w.4, w.5, w.6) (spread-skip _ _ _ _ _ _ _ c.loop-i.invariant.2 (λ g. clash g (sym (w.2.ensures ∙ read-sends c.args.scan.all c.args.scan.back z w.1.given) ∙ w.3.left))))
+          (λ w. rw (w.1, w.2, w.3) (spread-skip _ _ _ _ _ _ _ c.loop-i.invariant.2 (λ g. in-of c.loop-i.how c.wide-m.ensures w.0.left)))) c.if-how-m-eq0.branch,
+    )
+
+pub shape_of-queue : goal.shape_of-queue
+shape_of-queue c = c.loop-i.invariant.2.grown.lenq
+
+pub shape_of-how : goal.shape_of-how
+shape_of-how c = c.loop-i.invariant.2.grown.lenw
+
+pub returns : goal.returns
+returns c = subst (λ (k : ℕ). Spread c.args.mods.now c.args.flow.now c.args.scan.all c.args.scan.back c.args.scan.from c.args.scan.undo c.args.scan.lo k c.args.queue.now c.args.how.now c.args.t c.loop-i.queue c.loop-i.how c.loop-i.tail) (le_antisymm c.loop-i.invariant.1 c.loop-i-test.false) c.loop-i.invariant.2

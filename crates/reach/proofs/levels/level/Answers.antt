@@ -1,0 +1,7 @@
+-- `reach::levels::level` is safe and ends: what it works in keeps its length. Assumes nothing.
+use borrow.Author.Rules.{rules}
+use native.Mathlib.Omega.{arith}
+use Rattle.reach.proofs.levels.level.Goals as goal
+
+pub meets-requires-2 : goal.meets-requires-2
+meets-requires-2 c = omega (arith, c.settle.auto.1.1.1.1.0, c.requires.2, c.requires.4)
