@@ -8,9 +8,8 @@ use Rattle.book.proofs.u16_at.Goals as goal
 pub returns-in-Number : goal.returns-in-Number
 returns-in-Number c =
     let a = c.args in
-    let n = c.n-1.given in
-    let g = goes 2 u16 a.book.now a.i n.0.0 _ (sym c.next_u16.ensures.0 ∙ n.1) in
-    (g.is, rw n.1 at c.next_u16.ensures.1)
+    let g = goes 2 u16 a.book.now a.i c.in-Number.n _ (sym c.next_u16.ensures.0 ∙ c.in-Number.is) in
+    (g.is, rw c.in-Number.is at c.next_u16.ensures.1)
 
 pub returns-in-End : goal.returns-in-End
 returns-in-End c =

@@ -24,34 +24,28 @@ returns-in_default c =
 pub returns-in_default-next_u16 : goal.returns-in_default-next_u16
 returns-in_default-next_u16 c =
     let a = c.args in
-    let low = c.low-1.given in
-    let g = goes 2 u16 a.book.now a.self.at low.0.0 low.0.1.0 (sym c.next_u16.ensures.0 ∙ low.1) in
-    let h = ends 2 u16 a.book.now low.0.1.0.at (sym c.next_u16-2.ensures.0 ∙ c.in_default-next_u16.is) in
+    let g = goes 2 u16 a.book.now a.self.at c.in-Number.low c.in-Number.c (sym c.next_u16.ensures.0 ∙ c.in-Number.is) in
+    let h = ends 2 u16 a.book.now c.in-Number.c.at (sym c.next_u16-2.ensures.0 ∙ c.in_default-next_u16.is) in
     (does-end 4 u32 a.book.now a.self.at (omega (arith, g.after)), omega arith)
 
 pub overflow_mul-result : goal.overflow_mul-result
 overflow_mul-result c =
-    let high = c.high-1.given in
-    let k = small _ high.0.0 high.0.1.0 high.1 c.next_u16-2.ensures.1 in
+    let k = small _ c.in-Number-next_u16.high c.in-Number-next_u16.d c.in-Number-next_u16.is c.next_u16-2.ensures.1 in
     omega (arith, k)
 
 pub overflow_add-result : goal.overflow_add-result
 overflow_add-result c =
-    let high = c.high-1.given in
-    let low = c.low-1.given in
-    let k = small _ high.0.0 high.0.1.0 high.1 c.next_u16-2.ensures.1 in
-    let l = small _ low.0.0 low.0.1.0 low.1 c.next_u16.ensures.1 in
+    let k = small _ c.in-Number-next_u16.high c.in-Number-next_u16.d c.in-Number-next_u16.is c.next_u16-2.ensures.1 in
+    let l = small _ c.in-Number.low c.in-Number.c c.in-Number.is c.next_u16.ensures.1 in
     omega (arith, k, l)
 
 pub returns : goal.returns
 unfolding u32
 returns c =
     let a = c.args in
-    let high = c.high-1.given in
-    let low = c.low-1.given in
-    let k = small _ high.0.0 high.0.1.0 high.1 c.next_u16-2.ensures.1 in
-    let l = small _ low.0.0 low.0.1.0 low.1 c.next_u16.ensures.1 in
-    let g = goes 2 u16 a.book.now a.self.at low.0.0 low.0.1.0 (sym c.next_u16.ensures.0 ∙ low.1) in
-    let h = goes 2 u16 a.book.now low.0.1.0.at high.0.0 high.0.1.0 (sym c.next_u16-2.ensures.0 ∙ high.1) in
-    let e : high.0.0 ≡ u16 a.book.now (a.self.at + 2) = h.is ∙ ap (u16 a.book.now) g.after in
-    (does-go 4 u32 a.book.now a.self.at _ high.0.1.0 (omega (arith, g.after, h.there)) (omega (arith, g.is, e)) (omega (arith, g.after, h.after)), omega (arith, k, l))
+    let k = small _ c.in-Number-next_u16.high c.in-Number-next_u16.d c.in-Number-next_u16.is c.next_u16-2.ensures.1 in
+    let l = small _ c.in-Number.low c.in-Number.c c.in-Number.is c.next_u16.ensures.1 in
+    let g = goes 2 u16 a.book.now a.self.at c.in-Number.low c.in-Number.c (sym c.next_u16.ensures.0 ∙ c.in-Number.is) in
+    let h = goes 2 u16 a.book.now c.in-Number.c.at c.in-Number-next_u16.high c.in-Number-next_u16.d (sym c.next_u16-2.ensures.0 ∙ c.in-Number-next_u16.is) in
+    let e : c.in-Number-next_u16.high ≡ u16 a.book.now (a.self.at + 2) = h.is ∙ ap (u16 a.book.now) g.after in
+    (does-go 4 u32 a.book.now a.self.at _ c.in-Number-next_u16.d (omega (arith, g.after, h.there)) (omega (arith, g.is, e)) (omega (arith, g.after, h.after)), omega (arith, k, l))

@@ -33,7 +33,7 @@ small : (r : Step) (n : ℕ) (d : Cursor) → r ≡ Number n d → number_in r <
 small r n d e l = rw e at l
 
 few : (c : In-Number-next_u32-2) → c.in-Number-next_u32-2.bytes < 4294967296
-few c = let b = c.bytes-1.given in small _ b.0.0 b.0.1.0 b.1 c.next_u32-2.ensures.1
+few c = small _ c.in-Number-next_u32-2.bytes c.in-Number-next_u32-2.next c.in-Number-next_u32-2.is c.next_u32-2.ensures.1
 
 pub returns-in_default : goal.returns-in_default
 returns-in_default c =
@@ -44,18 +44,16 @@ returns-in_default c =
 pub returns-in_default-next_u32 : goal.returns-in_default-next_u32
 returns-in_default-next_u32 c =
     let a = c.args in
-    let k = c.k-1.given in
     let g = first (goal.at.returns-in_default-next_u32 c).In-Number in
-    let h = ends 4 u32 a.book.now k.0.1.0.at (sym c.next_u32.ensures.0 ∙ c.in_default-next_u32.is) in
+    let h = ends 4 u32 a.book.now c.in-Number.c.at (sym c.next_u32.ensures.0 ∙ c.in_default-next_u32.is) in
     (cut_short a.book.now a.here.at a.kind a.start a.unit (omega (arith, g.after)), omega arith)
 
 pub returns-in_default-next_u32-2 : goal.returns-in_default-next_u32-2
 returns-in_default-next_u32-2 c =
     let a = c.args in
-    let f = c.at-1.given in
     let g = first (goal.at.returns-in_default-next_u32-2 c).In-Number in
     let i = second (goal.at.returns-in_default-next_u32-2 c).In-Number-next_u32 in
-    let h = ends 4 u32 a.book.now f.0.1.0.at (sym c.next_u32-2.ensures.0 ∙ c.in_default-next_u32-2.is) in
+    let h = ends 4 u32 a.book.now c.in-Number-next_u32.d.at (sym c.next_u32-2.ensures.0 ∙ c.in_default-next_u32-2.is) in
     (cut_short a.book.now a.here.at a.kind a.start a.unit (omega (arith, g.after, i.after)), omega arith)
 
 pub overflow_add-result : goal.overflow_add-result

@@ -32,15 +32,13 @@ counted c = let z = c.start-here.ensures in goes 2 u16 _ 0 _ _ (rw z at (sym c.n
 one : (c : In-Number-entry) → Enters c.args.book.now 2 1 32 4 c.in-Number-entry.second_body c.in-Number-entry.second
 one c =
     let f = counted (AT c).In-Number in
-    let g = c.second_body-1.given in
-    enters _ 2 1 32 4 _ _ (put _ 1 4 _ 2 32 32 _ f.after (omega arith) (sym c.entry.ensures.0 ∙ g.1))
+    enters _ 2 1 32 4 _ _ (put _ 1 4 _ 2 32 32 _ f.after (omega arith) (sym c.entry.ensures.0 ∙ c.in-Number-entry.is))
 
 two : (c : In-Number-entry-2) →
     Enters c.args.book.now 12 2 (32 + u32 c.args.book.now 8) 4 c.in-Number-entry-2.third_body c.in-Number-entry-2.third
 two c =
     let f = one (AT c).In-Number-entry in
-    let g = c.third_body-1.given in
-    enters _ 12 2 _ 4 _ _ (put _ 2 4 _ 12 _ _ _ f.after f.ends (sym c.entry-2.ensures.0 ∙ g.1))
+    enters _ 12 2 _ 4 _ _ (put _ 2 4 _ 12 _ _ _ f.after f.ends (sym c.entry-2.ensures.0 ∙ c.in-Number-entry-2.is))
 
 -- where a body ends is as small as the contract says
 few : (r : Step) (n top : ℕ) (d : Cursor) → r ≡ Number n d → number_in r ≤ top → n ≤ top
@@ -48,7 +46,7 @@ few : (r : Step) (n top : ℕ) (d : Cursor) → r ≡ Number n d → number_in r
 few r n top d e l = rw e at l
 
 second-few : (c : In-Number-entry) → c.in-Number-entry.second_body ≤ 32 + 4294967295
-second-few c = let g = c.second_body-1.given in few _ g.0.0 _ g.0.1.0 g.1 c.entry.ensures.1
+second-few c = few _ c.in-Number-entry.second_body _ c.in-Number-entry.second c.in-Number-entry.is c.entry.ensures.1
 
 pub returns-in_default : goal.returns-in_default
 returns-in_default c =
@@ -73,8 +71,7 @@ returns-in_default-entry-2 c =
 
 pub entry-requires-3 : goal.entry-requires-3
 entry-requires-3 c =
-    let g = c.third_body-1.given in
-    let k = few _ g.0.0 _ g.0.1.0 g.1 c.entry-2.ensures.1 in
+    let k = few _ c.in-Number-entry-2.third_body _ c.in-Number-entry-2.third c.in-Number-entry-2.is c.entry-2.ensures.1 in
     (omega (arith, k, second-few (goal.at.entry-requires-3 c).In-Number-entry), omega arith)
 
 pub returns-in_default-entry-3 : goal.returns-in_default-entry-3
@@ -89,6 +86,5 @@ returns c =
     let a = counted (goal.at.returns c).In-Number in
     let f = one (goal.at.returns c).In-Number-entry in
     let g = two (goal.at.returns c).In-Number-entry-2 in
-    let n = c.end-1.given in
-    let h = enters s 22 3 (32 + u32 s 8 + u32 s 18) 2 _ _ (put s 3 2 _ 22 _ _ _ g.after g.ends (sym c.entry-3.ensures.0 ∙ n.1)) in
+    let h = enters s 22 3 (32 + u32 s 8 + u32 s 18) 2 _ _ (put s 3 2 _ 22 _ _ _ g.after g.ends (sym c.entry-3.ensures.0 ∙ c.in-Number-entry-3.is)) in
     ap₂ (λ (x y : ℕ). eqb x 3 && eqb y (length s)) a.is h.ends ∙ laid_by s h.there f.is g.is h.is

@@ -25,7 +25,7 @@ loop-more-init c =
     let pre = c.requires in
     let shared-slice-known3 = c.shared_slice_known-3-1 in
     let net-sums = c.net_sums in
-    (steady-of args.first.now args.mods.now args.weight.now args.mark.now pre.0.laid (λ e l. omega (arith, shared-slice-known3.given e)) args.flow.now pre.1 pre.2 _ (net-sums.auto.1.1.0 ∙ pre.0.sums) (record { sum = λ e l. net-sums.ensures.sum e (omega (arith, net-sums.auto.1.1.0)) }), pre.0.queue, pre.0.how, pre.0.seen, net-sums.auto.1.1.0 ∙ pre.0.sums)
+    (steady-of args.first.now args.mods.now args.weight.now args.mark.now pre.0.laid (λ e l. omega (arith, shared-slice-known3.given e)) args.flow.now pre.1 pre.2 _ (net-sums.auto.sums ∙ pre.0.sums) (record { sum = λ e l. net-sums.ensures.sum e (omega (arith, net-sums.auto.sums)) }), pre.0.queue, pre.0.how, pre.0.seen, net-sums.auto.sums ∙ pre.0.sums)
 
 pub search-requires : goal.search-requires
 search-requires c =
@@ -62,42 +62,42 @@ loop-more-preserved c =
     let loop = c.loop-more in
     let searched = c.search in
     let push-makers = c.push_makers-more in
-    ((push-makers.ensures (card_of args.first.now args.mods.now args.weight.now args.mark.now) (field_of args.first.now args.mods.now args.weight.now args.nets.now args.at.now args.pins.now args.mark.now pre.0.laid pre.0.tables pre.0.pins (λ e l. omega (arith, shared-slice-known3.given e)) loop.sums loop.flow loop.invariant.0 _ searched.ensures) (λ z l e i. route-of args.first.now args.mods.now args.weight.now args.nets.now args.at.now args.pins.now args.mark.now pre.0.laid pre.0.tables pre.0.pins (λ e l. omega (arith, shared-slice-known3.given e)) loop.sums loop.flow loop.invariant.0 _ searched.ensures z l e i) loop.invariant.0).gained.steady, searched.auto.1.1.1.1.1.1.1.1.1.1.0 ∙ loop.invariant.1, searched.auto.1.1.1.1.1.1.1.1.1.1.1.0 ∙ loop.invariant.2, searched.auto.1.1.1.1.1.1.1.1.1.1.1.1.0 ∙ loop.invariant.3, push-makers.auto.1.1.1.1.1.0 ∙ loop.invariant.4)
+    ((push-makers.ensures (card_of args.first.now args.mods.now args.weight.now args.mark.now) (field_of args.first.now args.mods.now args.weight.now args.nets.now args.at.now args.pins.now args.mark.now pre.0.laid pre.0.tables pre.0.pins (λ e l. omega (arith, shared-slice-known3.given e)) loop.sums loop.flow loop.invariant.0 _ searched.ensures) (λ z l e i. route-of args.first.now args.mods.now args.weight.now args.nets.now args.at.now args.pins.now args.mark.now pre.0.laid pre.0.tables pre.0.pins (λ e l. omega (arith, shared-slice-known3.given e)) loop.sums loop.flow loop.invariant.0 _ searched.ensures z l e i) loop.invariant.0).gained.steady, searched.auto.queue ∙ loop.invariant.1, searched.auto.how ∙ loop.invariant.2, searched.auto.seen ∙ loop.invariant.3, push-makers.auto.sums ∙ loop.invariant.4)
 
 pub shape_of-queue : goal.shape_of-queue
 shape_of-queue c =
     let pre = c.requires in
     let loop = c.loop-more in
     let searched = c.search in
-    searched.auto.1.1.1.1.1.1.1.1.1.1.0 ∙ loop.invariant.1 ∙ sym pre.0.queue
+    searched.auto.queue ∙ loop.invariant.1 ∙ sym pre.0.queue
 
 pub shape_of-how : goal.shape_of-how
 shape_of-how c =
     let pre = c.requires in
     let loop = c.loop-more in
     let searched = c.search in
-    searched.auto.1.1.1.1.1.1.1.1.1.1.1.0 ∙ loop.invariant.2 ∙ sym pre.0.how
+    searched.auto.how ∙ loop.invariant.2 ∙ sym pre.0.how
 
 pub shape_of-seen : goal.shape_of-seen
 shape_of-seen c =
     let pre = c.requires in
     let loop = c.loop-more in
     let searched = c.search in
-    searched.auto.1.1.1.1.1.1.1.1.1.1.1.1.0 ∙ loop.invariant.3 ∙ sym pre.0.seen
+    searched.auto.seen ∙ loop.invariant.3 ∙ sym pre.0.seen
 
 pub shape_of-sums : goal.shape_of-sums
 shape_of-sums c =
     let pre = c.requires in
     let loop = c.loop-more in
     let push-makers = c.push_makers-more in
-    push-makers.auto.1.1.1.1.1.0 ∙ loop.invariant.4 ∙ sym pre.0.sums
+    push-makers.auto.sums ∙ loop.invariant.4 ∙ sym pre.0.sums
 
 pub shape_of-flow : goal.shape_of-flow
 shape_of-flow c =
     let pre = c.requires in
     let loop = c.loop-more in
     let push-makers = c.push_makers-more in
-    push-makers.auto.1.1.1.1.1.1.0 ∙ loop.invariant.0.flows ∙ sym pre.2
+    push-makers.auto.flow ∙ loop.invariant.0.flows ∙ sym pre.2
 
 pub returns : goal.returns
 returns c =

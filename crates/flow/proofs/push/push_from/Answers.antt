@@ -18,10 +18,10 @@ push_way-requires c =
     (pre.0, pre.1.ground, carry-rest pre.0 args.mods.now args.weight.now args.nets.now args.mark.now args.how.now pre.1 args.sums.now args.flow.now pre.3 args.z pre.2 way-room.result.room way-room.ensures, way-most args.mods.now args.weight.now args.nets.now args.mark.now args.how.now args.sums.now args.flow.now args.z way-room.ensures)
 
 pub shape_of-sums-then-d-gt0 : goal.shape_of-sums-then-d-gt0
-shape_of-sums-then-d-gt0 c = c.push_way.auto.1.1.1.1.1.1.0
+shape_of-sums-then-d-gt0 c = c.push_way.auto.sums
 
 pub shape_of-flow-then-d-gt0 : goal.shape_of-flow-then-d-gt0
-shape_of-flow-then-d-gt0 c = c.push_way.auto.1.1.1.1.1.1.1.0
+shape_of-flow-then-d-gt0 c = c.push_way.auto.flow
 
 pub returns-then-d-gt0 : goal.returns-then-d-gt0
 returns-then-d-gt0 c =

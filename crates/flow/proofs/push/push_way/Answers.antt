@@ -69,7 +69,7 @@ loop-u-preserved c =
     let if1 = c.loop-u-test in
     let push_step = c.push_step in
     let left-pin = c.left_pin in
-    (subst (λ (u : ℕ). In args.how.now u) (sym ((c.wide-u.ensures ∙ ap (λ (i : ℕ). get_or args.mods.now i 0) left-pin.ensures))) (pre.1.trail.step loop.u loop.invariant.0 if1.true).from, way_step args.mods.now args.nets.now args.mark.now args.how.now args.sums.now args.flow.now args.d args.z loop.sums loop.flow loop.u loop.invariant.1 if1.true pre.3 push_step.ensures.0 push_step.ensures.1 ((c.wide-u.ensures ∙ ap (λ (i : ℕ). get_or args.mods.now i 0) left-pin.ensures)), push_step.auto.1.1.1.0 ∙ loop.invariant.2, push_step.auto.1.1.1.1.0 ∙ loop.invariant.3)
+    (subst (λ (u : ℕ). In args.how.now u) (sym ((c.wide-u.ensures ∙ ap (λ (i : ℕ). get_or args.mods.now i 0) left-pin.ensures))) (pre.1.trail.step loop.u loop.invariant.0 if1.true).from, way_step args.mods.now args.nets.now args.mark.now args.how.now args.sums.now args.flow.now args.d args.z loop.sums loop.flow loop.u loop.invariant.1 if1.true pre.3 push_step.ensures.0 push_step.ensures.1 ((c.wide-u.ensures ∙ ap (λ (i : ℕ). get_or args.mods.now i 0) left-pin.ensures)), push_step.auto.sums ∙ loop.invariant.2, push_step.auto.flow ∙ loop.invariant.3)
 
 pub shape_of-sums : goal.shape_of-sums
 shape_of-sums c = c.loop-u.invariant.2

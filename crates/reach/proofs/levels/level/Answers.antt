@@ -4,4 +4,4 @@ use native.Mathlib.Omega.{arith}
 use Rattle.reach.proofs.levels.level.Goals as goal
 
 pub meets-requires-2 : goal.meets-requires-2
-meets-requires-2 c = omega (arith, c.settle.auto.1.1.1.1.0, c.requires.2, c.requires.4)
+meets-requires-2 c = omega (arith, c.settle.auto.reached, c.requires.2, c.requires.4)
