@@ -1,6 +1,3 @@
--- what each check that has passed tells
-use borrow.Author.Rules.{rules}
-use borrow.Author.Tests.{not-true, not-false}
 use mathlib.Core.Path.{◌≡◌, sym, ◌∙◌, ap₂}
 use mathlib.Core.Bool.{true, false, ◌||◌}
 use Rattle.book.specs.declared.Found.TheVariants.{Nothing}
@@ -9,8 +6,9 @@ use Rattle.book.proofs.Laid.{counted-nets, sum-right}
 use Rattle.book.proofs.read_laid.Goals as goal
 use Rattle.book.proofs.read_laid.Goals.{Else-not-is_counted, In_default, In_default-bad_net, In_default-bad_pin}
 
+-- what each check that has passed tells
 passed2 : (c : Else-not-is_counted) → counted c.args.book.now ≡ true
-passed2 c = sym c.is_counted.ensures ∙ not-false _ c.if-not-is_counted.false
+passed2 c = sym c.is_counted.ensures ∙ c.if-not-is_counted.false
 
 passed3 : (c : In_default) → check3 c.args.book.now ≡ Nothing
 passed3 c = sym c.bad_module.ensures ∙ c.in_default.is
@@ -24,7 +22,7 @@ passed5 c = sym c.bad_pin.ensures ∙ c.in_default-bad_pin.is
 pub returns-then-not-is_counted : goal.returns-then-not-is_counted
 unfolding rest_of
 returns-then-not-is_counted c =
-    let e : counted c.args.book.now ≡ false = sym c.is_counted.ensures ∙ not-true _ c.if-not-is_counted.true in
+    let e : counted c.args.book.now ≡ false = sym c.is_counted.ensures ∙ c.if-not-is_counted.true in
     rw e
 
 pub returns-in-At : goal.returns-in-At

@@ -1,5 +1,4 @@
 -- a step's number is as small as its contract says
-use borrow.Author.Rules.{rules}
 use Prim.Native.Nat.{ℕ, ◌+◌, ◌<◌}
 use native.Mathlib.Omega.{arith}
 use mathlib.Core.Path.{◌≡◌, sym, ap, ◌∙◌}
@@ -12,7 +11,6 @@ use Rattle.book.proofs.Strides.{goes, ends, does-go, does-end}
 use Rattle.book.proofs.Cursor.next_u32.Goals as goal
 
 small : (r : Step) (n : ℕ) (d : Cursor) → r ≡ Number n d → number_in r < 65536 → n < 65536
-
 small r n d e l = rw e at l
 
 pub returns-in_default : goal.returns-in_default

@@ -1,11 +1,8 @@
 -- `book::bad_module` meets its contract: no module before `m` is bad. Assumes nothing.
-use Prim.Native.Nat.{◌≤◌, ◌-◌}
-use mathlib.Core.Path.{◌≡◌, refl, sym, ◌∙◌}
-use borrow.Author.Rules.{rules}
+use mathlib.Core.Path.{refl, sym, ◌∙◌}
 use native.Mathlib.Omega.{arith}
-use Rattle.book.specs.declared.Found.TheVariants.{Nothing}
 use Rattle.book.specs.First.{first, lowest}
-use Rattle.book.specs.Checks.{bad_module, check3}
+use Rattle.book.specs.Checks.{check3}
 use Rattle.book.proofs.Firsts.{lowest-more, lowest-found, lowest-ended}
 use Rattle.book.proofs.checks.bad_module.Goals as goal
 

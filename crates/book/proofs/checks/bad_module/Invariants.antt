@@ -1,12 +1,9 @@
 -- `book::bad_module` meets its contract: no module before `m` is bad. Assumes nothing.
 use Prim.Native.Nat.{◌≤◌, ◌-◌}
-use mathlib.Core.Path.{◌≡◌, refl, sym, ◌∙◌}
-use borrow.Author.Rules.{rules}
-use native.Mathlib.Omega.{arith}
+use mathlib.Core.Path.{◌≡◌}
 use Rattle.book.specs.declared.Found.TheVariants.{Nothing}
-use Rattle.book.specs.First.{first, lowest}
-use Rattle.book.specs.Checks.{bad_module, check3}
-use Rattle.book.proofs.Firsts.{lowest-more, lowest-found, lowest-ended}
+use Rattle.book.specs.First.{lowest}
+use Rattle.book.specs.Checks.{bad_module}
 use Rattle.book.proofs.checks.bad_module.Given as goal
 
 abbrev pub invariant-loop-m : goal.invariant-loop-m

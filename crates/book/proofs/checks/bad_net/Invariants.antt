@@ -1,15 +1,10 @@
 -- `book::bad_net` meets its contract: no net before `n` is bad, and `sum` is where the pins of net `n` begin. Assumes nothing.
 use Prim.Native.Nat.{◌≤◌, ◌-◌, ◌*◌}
-use mathlib.Core.Path.{◌≡◌, refl, sym, ◌∙◌, ap}
-use borrow.Author.Rules.{rules}
-use native.Mathlib.Omega.{arith}
-use borrow.Author.Tests.{eq-eqb, ne_eqb}
-use native.Mathlib.Numerals.{add-one}
-use Rattle.book.specs.declared.Found.TheVariants.{At, Nothing}
-use Rattle.book.specs.First.{first, lowest}
-use Rattle.book.specs.Format.{first_pin, nets, pins}
-use Rattle.book.specs.Checks.{bad_net, check4}
-use Rattle.book.proofs.Firsts.{lowest-more, lowest-found, lowest-ended}
+use mathlib.Core.Path.{◌≡◌}
+use Rattle.book.specs.declared.Found.TheVariants.{Nothing}
+use Rattle.book.specs.First.{lowest}
+use Rattle.book.specs.Format.{first_pin}
+use Rattle.book.specs.Checks.{bad_net}
 use Rattle.book.proofs.checks.bad_net.Given as goal
 
 abbrev pub invariant-loop-n : goal.invariant-loop-n

@@ -1,11 +1,10 @@
 -- `book::bad_pin` meets its contract: no net before `n` has a bad pin, none of net `n` before `j` is bad, and `p` is the index of pin `j`
 -- of net `n`. Assumes nothing.
-use Prim.Native.Nat.{◌+◌, ◌≤◌, ◌<◌, ◌-◌}
+use Prim.Native.Nat.{◌<◌}
 use mathlib.Core.Path.{◌≡◌, refl, sym, ◌∙◌, ap}
-use borrow.Author.Rules.{rules}
 use native.Mathlib.Omega.{arith}
 use native.Mathlib.Numerals.{add-one}
-use Rattle.book.specs.declared.Found.TheVariants.{At, Nothing}
+use Rattle.book.specs.declared.Found.TheVariants.{At}
 use Rattle.book.specs.First.{first, lowest}
 use Rattle.book.specs.Format.{first_pin, nets, pins, pin_count}
 use Rattle.book.specs.Checks.{bad_pin_of, bad_pins, check5}

@@ -1,5 +1,3 @@
--- what each step that has gone tells
-use borrow.Author.Rules.{rules}
 use Prim.Native.Nat.{ℕ, ◌<◌}
 use native.Mathlib.Omega.{arith}
 use mathlib.Core.Path.{◌≡◌, sym, ◌∙◌}
@@ -12,6 +10,7 @@ use Rattle.book.proofs.Strides.{Goes, goes, ends, Got, got, does-enter, does-ref
 use Rattle.book.proofs.checks.entry.Goals as goal
 use Rattle.book.proofs.checks.entry.Goals.{In-Number, In-Number-next_u32, In-Number-next_u32-2}
 
+-- what each step that has gone tells
 first : (c : In-Number) →
     Goes 2 u16 c.args.book.now c.args.here.at c.in-Number.k c.in-Number.c
 first c = goes 2 u16 _ _ _ _ (sym c.next_u16.ensures.0 ∙ c.in-Number.is)
@@ -21,15 +20,16 @@ second : (c : In-Number-next_u32) →
 second c = goes 4 u32 _ _ _ _ (sym c.next_u32.ensures.0 ∙ c.in-Number-next_u32.is)
 
 whole : (c : In-Number-next_u32-2) →
+    Goes 2 u16 c.args.book.now c.args.here.at c.in-Number.k c.in-Number.c →
+    Goes 4 u32 c.args.book.now c.in-Number.c.at c.in-Number-next_u32.at c.in-Number-next_u32.d →
     Got c.args.book.now c.args.here.at
     c.in-Number.k c.in-Number-next_u32.at c.in-Number-next_u32-2.bytes c.in-Number-next_u32-2.next
-whole c =
-    got _ _ _ _ _ _ _ _ (first (AT c).In-Number) (second (AT c).In-Number-next_u32)
+whole c f g =
+    got _ _ _ _ _ _ _ _ f g
     (goes 4 u32 _ _ _ _ (sym c.next_u32-2.ensures.0 ∙ c.in-Number-next_u32-2.is))
 
 -- a step's number is as small as its contract says
 small : (r : Step) (n : ℕ) (d : Cursor) → r ≡ Number n d → number_in r < 4294967296 → n < 4294967296
-
 small r n d e l = rw e at l
 
 few : (c : In-Number-next_u32-2) → c.in-Number-next_u32-2.bytes < 4294967296
@@ -62,9 +62,9 @@ overflow_add-result c = omega (arith, few (goal.at.overflow_add-result c).In-Num
 pub returns-then-k-kind : goal.returns-then-k-kind
 returns-then-k-kind c =
     let a = c.args in
-    (does-enter a.book.now a.here.at a.kind a.start a.unit _ _ _ _ (whole (goal.at.returns-then-k-kind c).In-Number-next_u32-2) c.if-k-kind.true, omega (arith, few (goal.at.returns-then-k-kind c).In-Number-next_u32-2))
+    (does-enter a.book.now a.here.at a.kind a.start a.unit _ _ _ _ (whole (goal.at.returns-then-k-kind c).In-Number-next_u32-2 (first (goal.at.returns-then-k-kind c).In-Number) (second (goal.at.returns-then-k-kind c).In-Number-next_u32)) c.if-k-kind.true, omega (arith, few (goal.at.returns-then-k-kind c).In-Number-next_u32-2))
 
 pub returns : goal.returns
 returns c =
     let a = c.args in
-    (does-refuse a.book.now a.here.at a.kind a.start a.unit _ _ _ _ (whole (goal.at.returns c).In-Number-next_u32-2) c.if-k-kind.false, omega arith)
+    (does-refuse a.book.now a.here.at a.kind a.start a.unit _ _ _ _ (whole (goal.at.returns c).In-Number-next_u32-2 (first (goal.at.returns c).In-Number) (second (goal.at.returns c).In-Number-next_u32)) c.if-k-kind.false, omega arith)

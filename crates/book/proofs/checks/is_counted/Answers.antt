@@ -1,4 +1,3 @@
-use borrow.Author.Rules.{rules}
 use Rattle.book.specs.Checks.{counted}
 use Rattle.book.proofs.checks.is_counted.Goals as goal
 

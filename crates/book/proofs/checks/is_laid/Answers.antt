@@ -1,5 +1,3 @@
--- an entry that stands where it should
-use borrow.Author.Rules.{rules}
 use Prim.Native.Nat.{ℕ, ◌+◌, ◌≤◌}
 use native.Mathlib.Omega.{arith}
 use mathlib.Core.Path.{◌≡◌, sym, ap₂, ◌∙◌}
@@ -17,32 +15,27 @@ use Rattle.book.proofs.Laid.{unlaid, laid_by}
 use Rattle.book.proofs.checks.is_laid.Goals as goal
 use Rattle.book.proofs.checks.is_laid.Goals.{In-Number, In-Number-entry, In-Number-entry-2}
 
+-- an entry that stands where it should
 put : (s : List ℕ) (kind unit a b i j : ℕ) (r : Step) → a ≡ b → i ≡ j → step_entry s a kind i unit ≡ r → step_entry s b kind j unit ≡ r
-
 put s kind unit a b i j r e f h = rw (e, f) at h
 
 -- and is not right: the book is not laid
 missed : (s : List ℕ) (kind unit at start : ℕ) → at + 10 ≤ 32 → step_entry s at kind start unit ≡ End → 32 ≤ length s → entry_is s at kind start unit ≡ true → ⊥
-
 missed s kind unit at start l e h t = true≢false (sym t ∙ refuses s at kind start unit e (omega arith))
 
 counted : (c : In-Number) → Goes 2 u16 c.args.book.now 0 c.in-Number.count c.in-Number.first
 counted c = let z = c.start-here.ensures in goes 2 u16 _ 0 _ _ (rw z at (sym c.next_u16.ensures.0 ∙ c.in-Number.is))
 
-one : (c : In-Number-entry) → Enters c.args.book.now 2 1 32 4 c.in-Number-entry.second_body c.in-Number-entry.second
-one c =
-    let f = counted (AT c).In-Number in
-    enters _ 2 1 32 4 _ _ (put _ 1 4 _ 2 32 32 _ f.after (omega arith) (sym c.entry.ensures.0 ∙ c.in-Number-entry.is))
+one : (c : In-Number-entry) → Goes 2 u16 c.args.book.now 0 c.in-Number.count c.in-Number.first → Enters c.args.book.now 2 1 32 4 c.in-Number-entry.second_body c.in-Number-entry.second
+one c f = enters _ 2 1 32 4 _ _ (put _ 1 4 _ 2 32 32 _ f.after (omega arith) (sym c.entry.ensures.0 ∙ c.in-Number-entry.is))
 
 two : (c : In-Number-entry-2) →
+    Enters c.args.book.now 2 1 32 4 c.in-Number-entry.second_body c.in-Number-entry.second →
     Enters c.args.book.now 12 2 (32 + u32 c.args.book.now 8) 4 c.in-Number-entry-2.third_body c.in-Number-entry-2.third
-two c =
-    let f = one (AT c).In-Number-entry in
-    enters _ 12 2 _ 4 _ _ (put _ 2 4 _ 12 _ _ _ f.after f.ends (sym c.entry-2.ensures.0 ∙ c.in-Number-entry-2.is))
+two c f = enters _ 12 2 _ 4 _ _ (put _ 2 4 _ 12 _ _ _ f.after f.ends (sym c.entry-2.ensures.0 ∙ c.in-Number-entry-2.is))
 
 -- where a body ends is as small as the contract says
 few : (r : Step) (n top : ℕ) (d : Cursor) → r ≡ Number n d → number_in r ≤ top → n ≤ top
-
 few r n top d e l = rw e at l
 
 second-few : (c : In-Number-entry) → c.in-Number-entry.second_body ≤ 32 + 4294967295
@@ -66,7 +59,7 @@ entry-requires-2 c = (omega (arith, second-few (goal.at.entry-requires-2 c).In-N
 pub returns-in_default-entry-2 : goal.returns-in_default-entry-2
 returns-in_default-entry-2 c =
     let s = c.args.book.now in
-    let f = one (goal.at.returns-in_default-entry-2 c).In-Number-entry in
+    let f = one (goal.at.returns-in_default-entry-2 c).In-Number-entry (counted (goal.at.returns-in_default-entry-2 c).In-Number) in
     unlaid s (λ q. missed s 2 4 12 (32 + u32 s 8) (omega arith) (put s 2 4 _ 12 _ _ _ f.after f.ends (sym c.entry-2.ensures.0 ∙ c.in_default-entry-2.is)) q.long q.two)
 
 pub entry-requires-3 : goal.entry-requires-3
@@ -77,14 +70,14 @@ entry-requires-3 c =
 pub returns-in_default-entry-3 : goal.returns-in_default-entry-3
 returns-in_default-entry-3 c =
     let s = c.args.book.now in
-    let f = two (goal.at.returns-in_default-entry-3 c).In-Number-entry-2 in
+    let f = two (goal.at.returns-in_default-entry-3 c).In-Number-entry-2 (one (goal.at.returns-in_default-entry-3 c).In-Number-entry (counted (goal.at.returns-in_default-entry-3 c).In-Number)) in
     unlaid s (λ q. missed s 3 2 22 (32 + u32 s 8 + u32 s 18) (omega arith) (put s 3 2 _ 22 _ _ _ f.after f.ends (sym c.entry-3.ensures.0 ∙ c.in_default-entry-3.is)) q.long q.three)
 
 pub returns : goal.returns
 returns c =
     let s = c.args.book.now in
     let a = counted (goal.at.returns c).In-Number in
-    let f = one (goal.at.returns c).In-Number-entry in
-    let g = two (goal.at.returns c).In-Number-entry-2 in
+    let f = one (goal.at.returns c).In-Number-entry (counted (goal.at.returns c).In-Number) in
+    let g = two (goal.at.returns c).In-Number-entry-2 (one (goal.at.returns c).In-Number-entry (counted (goal.at.returns c).In-Number)) in
     let h = enters s 22 3 (32 + u32 s 8 + u32 s 18) 2 _ _ (put s 3 2 _ 22 _ _ _ g.after g.ends (sym c.entry-3.ensures.0 ∙ c.in-Number-entry-3.is)) in
     ap₂ (λ (x y : ℕ). eqb x 3 && eqb y (length s)) a.is h.ends ∙ laid_by s h.there f.is g.is h.is

@@ -1,15 +1,10 @@
 -- `book::lacks` meets its contract: no module before `m` has the mark. The measure is what is left of the count. Assumes nothing.
 use Prim.Native.Nat.{◌≤◌, ◌-◌}
-use mathlib.Core.Path.{◌≡◌, refl, sym, ◌∙◌}
-use borrow.Author.Rules.{rules}
-use borrow.Author.Tests.{eq-eqb, ne_eqb}
-use native.Mathlib.Omega.{arith}
+use mathlib.Core.Path.{◌≡◌}
 use Rattle.book.specs.declared.Found.TheVariants.{Nothing}
-use Rattle.book.specs.First.{first, lowest}
-use Rattle.book.specs.Format.{mark, modules}
-use Rattle.book.specs.Checks.{lacks}
+use Rattle.book.specs.First.{lowest}
+use Rattle.book.specs.Format.{mark}
 use lib.Dec.{eqb}
-use Rattle.book.proofs.Firsts.{lowest-more, lowest-found, lowest-ended}
 use Rattle.book.proofs.checks.lacks.Given as goal
 
 abbrev pub invariant-loop-m : goal.invariant-loop-m

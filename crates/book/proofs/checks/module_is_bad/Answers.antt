@@ -1,4 +1,3 @@
-use borrow.Author.Rules.{rules}
 use Rattle.book.specs.Checks.{bad_module}
 use Rattle.book.proofs.checks.module_is_bad.Goals as goal
 

@@ -1,4 +1,3 @@
-use borrow.Author.Rules.{rules}
 use Rattle.book.specs.Checks.{bad_net}
 use Rattle.book.proofs.checks.net_is_bad.Goals as goal
 

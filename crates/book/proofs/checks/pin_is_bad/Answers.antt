@@ -1,4 +1,3 @@
-use borrow.Author.Rules.{rules}
 use borrow.Author.Tests.{lt-ltb, le-ltb}
 use mathlib.Core.Bool.{or-false}
 use Rattle.book.specs.Checks.{bad_pin}
@@ -6,7 +5,7 @@ use Rattle.book.proofs.checks.pin_is_bad.Goals as goal
 
 pub returns-then-j-gt0 : goal.returns-then-j-gt0
 unfolding bad_pin
-returns-then-j-gt0 c = rw (lt-ltb 0 c.args.j c.if-j-gt0.true, c.pin.ensures.0, c.modules-limit.ensures, c.pin.ensures.0)
+returns-then-j-gt0 c = rw (lt-ltb 0 c.args.j c.if-j-gt0.true, c.pin-m.ensures.0, c.modules-limit.ensures, c.pin.ensures.0)
 
 pub returns-else-j-gt0 : goal.returns-else-j-gt0
 unfolding bad_pin

@@ -1,5 +1,4 @@
 -- `Band::says` meets its contract: each way out is what the tests that led to it pick. Assumes nothing.
-use borrow.Author.Rules.{rules}
 use Rattle.gate.proofs.Band.says.Goals as goal
 
 pub returns-then-self-a : goal.returns-then-self-a

@@ -1,7 +1,6 @@
 -- `Gate::band` meets its contract: at each arm the gate is that arm's case, where `band_of` computes. Assumes nothing.
 use mathlib.Core.Path.{sym, ap, ◌∙◌}
 use lib.Ieee.{of_bits}
-use borrow.Author.Rules.{rules}
 use Rattle.gate.specs.declared.Gate.{Gate}
 use Rattle.gate.specs.Gates.{band_of}
 use Rattle.gate.proofs.Gate.band.Goals as goal

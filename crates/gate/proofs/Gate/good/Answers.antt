@@ -2,7 +2,6 @@
 -- Assumes nothing.
 use mathlib.Core.Path.{sym, ap}
 use lib.Ieee.{of_bits}
-use borrow.Author.Rules.{rules}
 use Rattle.gate.specs.Gates.{good_gate}
 use Rattle.gate.proofs.Gate.good.Goals as goal
 

@@ -2,7 +2,6 @@
 use Prim.Native.Nat.{◌-◌}
 use mathlib.Core.Path.{◌≡◌}
 use lib.ListN.{length}
-use borrow.Author.Rules.{rules}
 use Rattle.reach.proofs.levels.gather.Given as goal
 
 abbrev pub invariant-loop-w : goal.invariant-loop-w

@@ -2,7 +2,6 @@
 use Prim.Native.Nat.{◌-◌}
 use mathlib.Core.Path.{◌≡◌}
 use lib.ListN.{length}
-use borrow.Author.Rules.{rules}
 use Rattle.reach.proofs.levels.join_takers.Given as goal
 
 abbrev pub invariant-loop-p : goal.invariant-loop-p

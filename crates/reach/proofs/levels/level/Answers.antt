@@ -1,5 +1,4 @@
 -- `reach::levels::level` is safe and ends: what it works in keeps its length. Assumes nothing.
-use borrow.Author.Rules.{rules}
 use native.Mathlib.Omega.{arith}
 use Rattle.reach.proofs.levels.level.Goals as goal
 

@@ -1,7 +1,6 @@
 -- `reach::levels::take_nets` is safe and ends: what it works in keeps its length. Assumes nothing.
 use mathlib.Core.Path.{◌≡◌}
 use lib.ListN.{length}
-use borrow.Author.Rules.{rules}
 use Rattle.reach.proofs.levels.take_nets.Given as goal
 
 abbrev pub invariant-loop-x : goal.invariant-loop-x

@@ -1,6 +1,5 @@
 -- `reach::rows::mark_word` is safe and ends: what it works in keeps its length. Assumes nothing.
 use Prim.Native.Nat.{◌-◌, ◌*◌, ◌≤◌}
-use borrow.Author.Rules.{rules}
 use Rattle.reach.proofs.rows.mark_word.Given as goal
 
 abbrev pub invariant-loop-m : goal.invariant-loop-m

@@ -2,7 +2,6 @@
 use mathlib.Core.Path.{◌≡◌}
 use lib.ListN.{length}
 use Rattle.reach.specs.Work.{words}
-use borrow.Author.Rules.{rules}
 use Rattle.reach.proofs.rows.redo_word.Given as goal
 
 abbrev pub invariant-loop-x : goal.invariant-loop-x

@@ -3,7 +3,6 @@ use Prim.Native.Nat.{◌-◌}
 use mathlib.Core.Path.{◌≡◌}
 use lib.ListN.{length}
 use Rattle.reach.specs.Work.{words}
-use borrow.Author.Rules.{rules}
 use Rattle.reach.proofs.rows.touch_sent.Given as goal
 
 abbrev pub invariant-loop-n : goal.invariant-loop-n

@@ -1,6 +1,5 @@
 -- `reach::sets::below` is safe and ends: what it works in keeps its length. Assumes nothing.
 use native.Mathlib.Nat.{mod-lt}
-use borrow.Author.Rules.{rules}
 use Rattle.reach.proofs.sets.below.Goals as goal
 
 pub returns : goal.returns

@@ -2,7 +2,6 @@
 use Prim.Native.Nat.{◌-◌}
 use mathlib.Core.Path.{◌≡◌}
 use lib.ListN.{length}
-use borrow.Author.Rules.{rules}
 use Rattle.reach.proofs.sets.join.Given as goal
 
 abbrev pub invariant-loop-k : goal.invariant-loop-k

@@ -1,8 +1,6 @@
 -- `reach::sets::join_members` is safe and ends: the row of each member is one of the 64. Assumes nothing.
 use Rattle.reach.proofs.Places.{row_in}
-use mathlib.Core.Path.{◌≡◌}
 use lib.ListN.{length}
-use borrow.Author.Rules.{rules}
 use native.Mathlib.Omega.{arith}
 use Rattle.reach.proofs.sets.join_members.Goals as goal
 

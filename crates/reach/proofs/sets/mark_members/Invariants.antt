@@ -1,7 +1,6 @@
 -- `reach::sets::mark_members` is safe and ends: what it works in keeps its length. Assumes nothing.
 use mathlib.Core.Path.{◌≡◌}
 use lib.ListN.{length}
-use borrow.Author.Rules.{rules}
 use Rattle.reach.proofs.sets.mark_members.Given as goal
 
 abbrev pub invariant-loop-x : goal.invariant-loop-x

@@ -1,7 +1,6 @@
 -- `reach::sets::meets` is safe and ends: what it works in keeps its length. Assumes nothing.
 use Prim.Native.Nat.{◌-◌, ◌≤◌}
 use lib.ListN.{length}
-use borrow.Author.Rules.{rules}
 use Rattle.reach.proofs.sets.meets.Given as goal
 
 abbrev pub invariant-loop-k : goal.invariant-loop-k

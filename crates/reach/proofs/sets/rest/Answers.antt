@@ -1,7 +1,6 @@
 -- `reach::sets::rest` meets its contract: to take 1 away and keep the common bits makes a number smaller. Assumes nothing.
 use Prim.Native.Nat.{◌-◌}
 use lib.Bits.{and_le_r}
-use borrow.Author.Rules.{rules}
 use native.Mathlib.Omega.{arith}
 use Rattle.reach.proofs.sets.rest.Goals as goal
 
