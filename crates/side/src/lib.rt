@@ -34,7 +34,7 @@ enum Given {
 }
 
 // A net apart from one module: whether that module has a pin on it, and whether another module's pin is on the side, and off it.
-#[derive(Drop)]
+#[derive(Clone, Copy)]
 struct Apart {
     has: bool,
     on: bool,

@@ -1,0 +1,14 @@
+-- `side::area` meets its contract: `sum` is the area of the modules before `m`. Assumes nothing.
+use Prim.Native.Nat.{◌*◌, ◌≤◌, ◌-◌}
+use mathlib.Core.Path.{◌≡◌}
+use Rattle.line.specs.Card.{area_to}
+use Rattle.book.specs.Format.{area}
+use Rattle.side.specs.Sides.{side_of}
+use Rattle.side.specs.Prices.{most_number}
+use Rattle.side.proofs.area.Given as goal
+
+abbrev pub invariant-loop-m : goal.invariant-loop-m
+invariant-loop-m l = (l.m ≤ l.count) × (l.sum ≡ area_to (area l.book) (side_of l.side) l.m) × (l.sum ≤ most_number * l.m)
+
+abbrev pub decreases-loop-m : goal.decreases-loop-m
+decreases-loop-m l = l.count - l.m
