@@ -7,24 +7,20 @@ use native.Mathlib.Omega.{arith}
 use lib.Dec.{eqb}
 use borrow.Author.Tests.{eq-eqb, ne_eqb}
 use Rattle.audit.specs.Checker.{agree}
-use Rattle.audit.proofs.agree.Statement.{statement}
-use Rattle.audit.proofs.agree.Tie as tie
+use Rattle.audit.proofs.agree.Goals as goal
 
 moved : (a b p : ℕ) → b ≤ a → Dec (a ≡ b + p) → eqb (a - b) p ≡ eqb a (b + p)
 moved a b p l (yes e) = eq-eqb (a - b) p (omega arith) ∙ sym (eq-eqb a (b + p) e)
 moved a b p l (no n) = ne_eqb (a - b) p (λ e. n (omega arith)) ∙ sym (ne_eqb a (b + p) n)
 
-returns : tie.Need-returns
+pub returns-then-taken-sent : goal.returns-then-taken-sent
 unfolding agree
-returns c =
-    let a = c.before.args in
-    ap (λ (b : Bool). b && eqb a.price a.claim) (moved a.sent a.taken a.price c.if1.true (ℕ_discrete a.sent (a.taken + a.price)))
+returns-then-taken-sent c =
+    let a = c.args in
+    ap (λ (b : Bool). b && eqb a.price a.claim) (moved a.sent a.taken a.price c.if-taken-sent.true (ℕ_discrete a.sent (a.taken + a.price)))
 
-returns-2 : tie.Need-returns-2
+pub returns-else-taken-sent : goal.returns-else-taken-sent
 unfolding agree
-returns-2 c =
-    let a = c.before.args in
+returns-else-taken-sent c =
+    let a = c.args in
     rw (ne_eqb a.sent (a.taken + a.price) (λ e. omega arith))
-
-pub agree-spec : {M : Type 1} → statement M
-agree-spec = tie.close (tie.spec returns returns-2)

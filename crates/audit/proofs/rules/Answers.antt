@@ -1,0 +1,12 @@
+-- `audit::rules` meets its contract, by each way out. Assumes nothing.
+use mathlib.Core.Path.{sym, ◌∙◌}
+use Rattle.audit.specs.Rules.{ruled_of}
+use Rattle.audit.proofs.rules.Goals as goal
+
+pub returns-in-At : goal.returns-in-At
+unfolding ruled_of
+returns-in-At c = rw (sym c.broken_net.ensures ∙ c.in-At.is)
+
+pub returns : goal.returns
+unfolding ruled_of
+returns c = rw (sym c.broken_net.ensures ∙ c.in_default.is) c.balance.ensures

@@ -1,0 +1,53 @@
+-- `audit::value_of` meets its contract: the two sums are those of the meter modules' pins before `p`, each at most `most_sent` for each of them. Assumes nothing.
+use Prim.Native.Nat.{ℕ, ◌+◌}
+use mathlib.Core.Path.{◌≡◌, ap, ap₂, sym, ◌∙◌}
+use mathlib.Core.Bool.{cond}
+use native.Mathlib.Omega.{arith}
+use lib.Dec.{eqb}
+use Rattle.line.specs.Flow.{meters}
+use Rattle.book.specs.Format.{pins, mark, pin}
+use Rattle.book.specs.Cards.{card_of}
+use Rattle.book.proofs.CardLaws.{pin-under}
+use Rattle.audit.specs.Rules.{sent_to, taken_to, value_sent, value_taken}
+use Rattle.audit.proofs.Totals.{sum-none, sum-next}
+use Rattle.audit.proofs.value_of.Goals as goal
+use Rattle.audit.proofs.value_of.Goals.{After-loop-p}
+
+pub loop-p-init : goal.loop-p-init
+loop-p-init c = (omega arith, sum-none _, sum-none _, omega arith, omega arith)
+
+pub mark-on-requires : goal.mark-on-requires
+mark-on-requires c =
+    let p = c.requires in
+    (p.0.sound.laid_out, rw c.pin.ensures.0 (pin-under _ p.0.sound c.loop-p.p (omega arith)))
+
+pub loop-p-preserved : goal.loop-p-preserved
+loop-p-preserved c =
+    let s = c.args.book.now in
+    let i = c.loop-p in
+    let k : c.mark-on.result ≡ mark s (pin s i.p) = c.mark-on.ensures.0 ∙ ap (mark s) c.pin.ensures.0 in
+    let x = c.if_on-sent.ensures.0 ∙ ap₂ (λ (m v : ℕ). cond (eqb m 1) v 0) k c.sent_at.ensures.0 in
+    let y = c.if_on-taken.ensures.0 ∙ ap₂ (λ (m v : ℕ). cond (eqb m 1) v 0) k c.taken_at.ensures.0 in (
+      omega arith,
+      ap₂ (λ (a b : ℕ). a + b) i.invariant.1 x ∙ sym (sum-next _ i.p),
+      ap₂ (λ (a b : ℕ). a + b) i.invariant.2 y ∙ sym (sum-next _ i.p),
+      omega arith,
+      omega arith,
+    )
+
+-- after the last pin the two sums are whole
+whole : (c : After-loop-p) →
+    let s = c.args.book.now in
+    let xs = c.args.flow.now in
+    (c.loop-p.sent ≡ value_sent s xs) × (c.loop-p.taken ≡ value_taken s xs)
+whole c =
+    let s = c.args.book.now in
+    let xs = c.args.flow.now in
+    let e : c.loop-p.p ≡ pins s = omega arith in
+    (c.loop-p.invariant.1 ∙ ap (sent_to s xs (meters (card_of s))) e, c.loop-p.invariant.2 ∙ ap (taken_to s xs (meters (card_of s))) e)
+
+pub overflow_sub-result : goal.overflow_sub-result
+overflow_sub-result c = omega (arith, (whole (goal.at.overflow_sub-result c).After-loop-p).0, (whole (goal.at.overflow_sub-result c).After-loop-p).1, c.requires.1)
+
+pub returns : goal.returns
+returns c = omega (arith, (whole (goal.at.returns c).After-loop-p).0, (whole (goal.at.returns c).After-loop-p).1, c.requires.1)
