@@ -97,14 +97,14 @@ module _ (fs ms ws mk : List ℕ) (laid : Laid fs ms ws mk) where
     pins = from-pins fs ms (length ws) laid.rises laid.ends 0 ws (omega arith) ∙ (let e : length ms - 0 ≡ length ms = omega arith in rw (zero-add (length ws), laid.begins, laid.ends, e) (take-length ms));
   }
 
-  mem_below : (M : ℕ) (ps : List ℕ) → ((p : ℕ) → p < length ps → get_or ps p 0 < M) → (m : ℕ) → Memᴰ m ps → m < M
-  mem_below M ps h m (Memᴰ.head e) = rw e (h 0 (omega arith))
-  mem_below M (q ∷ ps) h m (Memᴰ.tail k) = mem_below M ps (λ p l. h (suc p) (omega arith)) m k
+  mem_below : (M m : ℕ) (ps : List ℕ) → ((p : ℕ) → p < length ps → get_or ps p 0 < M) → Memᴰ m ps → m < M
+  mem_below M m ps h (Memᴰ.head e) = rw e (h 0 (omega arith))
+  mem_below M m (q ∷ ps) h (Memᴰ.tail k) = mem_below M m ps (λ p l. h (suc p) (omega arith)) k
 
   pub card-valid : Valid (card_of fs ms ws mk)
   unfolding card_of
   card-valid = record {
-    pins = λ m k. mem_below (length mk) ms laid.below m (subst (λ (l : List ℕ). Memᴰ m l) card-made.pins k);
+    pins = λ m k. mem_below (length mk) m ms laid.below (subst (λ (l : List ℕ). Memᴰ m l) card-made.pins k);
     marks = laid.marks;
   }
 

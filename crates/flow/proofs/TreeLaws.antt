@@ -15,7 +15,7 @@ use Rattle.line.specs.Flow.{sent, taken, total_sent}
 use Rattle.line.proofs.Ways.{plainly}
 use Rattle.line.proofs.Index.{net_at, start, numbers, pin_at, start-in}
 use Rattle.line.proofs.WayFlow.{Valid}
-use Rattle.line.proofs.Path.{pin_of, tail, head, NetSpare, Spare, spare-passes}
+use Rattle.line.proofs.Path.{pin_of, tail, NetSpare, Spare, spare-passes}
 use Rattle.line.proofs.Tree.{Twig, Tree, pin-module}
 use Rattle.line.proofs.Turn.{Reached}
 use Rattle.line.proofs.Search.{Forth, Open, forth-closed, closed-forth}

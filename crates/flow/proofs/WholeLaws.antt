@@ -3,7 +3,7 @@ use mathlib.Core.Path.{◌≡◌, refl, sym, ap, ap₂, ◌∙◌}
 use mathlib.Core.Bool.{Bool, true, false, not}
 use mathlib.Core.Logic.{◌≢◌, ⊎_elim}
 use mathlib.Core.List.{List}
-use Prim.Native.Nat.{ℕ, zero, suc, ◌+◌, ◌-◌, ◌≤◌, ◌<◌}
+use Prim.Native.Nat.{ℕ, suc, ◌+◌, ◌-◌, ◌≤◌, ◌<◌}
 use native.Mathlib.Omega.{arith}
 use lib.ListN.{length, take, drop, get_or}
 use lib.IntN.{ℤ, pos, negsuc}
@@ -13,7 +13,6 @@ use Rattle.line.specs.Card.{Card, price, Far, outside}
 use Rattle.line.specs.Flow.{sent, taken, total_sent, NetRule, Fair, value, meters}
 use Rattle.line.proofs.Ways.{plainly}
 use Rattle.line.proofs.WayFlow.{Valid}
-use Rattle.line.proofs.WayFlow
 use Rattle.line.proofs.Index.{net_at, start-in, numbers, each_at}
 use Rattle.line.proofs.Push.{more-sent, more-taken}
 use Rattle.line.proofs.Path.{Spare}

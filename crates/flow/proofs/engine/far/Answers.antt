@@ -1,5 +1,4 @@
 -- `flow::engine::far` meets its contract. Assumes nothing.
-use borrow.Author.Rules.{rules}
 use Rattle.flow.proofs.WholeLaws.{far-of}
 use Rattle.flow.proofs.engine.far.Goals as goal
 

@@ -1,14 +1,8 @@
 -- `flow::engine::net_sum` meets its contract: `s` is what the pins from `lo` up to `i` send. Assumes nothing.
-use mathlib.Core.Path.{◌≡◌, sym, ap, ◌∙◌}
-use Prim.Native.Nat.{ℕ, ◌≤◌, ◌-◌, ◌+◌}
-use native.Mathlib.Nat.{le_antisymm}
-use native.Mathlib.Omega.{arith}
-use lib.IntN.{pos}
-use lib.ListN.{get_or, take, drop}
-use borrow.Author.Rules.{rules}
-use Rattle.line.specs.Flow.{sent, total_sent}
-use Rattle.flow.proofs.RaiseLaws.{sum-none, sum_more, sum_below}
-use Rattle.flow.proofs.Numbers.{read_back}
+use mathlib.Core.Path.{◌≡◌}
+use Prim.Native.Nat.{◌≤◌, ◌-◌}
+use lib.ListN.{take, drop}
+use Rattle.line.specs.Flow.{total_sent}
 use Rattle.flow.proofs.engine.net_sum.Given as goal
 
 abbrev pub invariant-loop-i : goal.invariant-loop-i

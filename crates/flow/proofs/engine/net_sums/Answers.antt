@@ -1,11 +1,8 @@
 -- `flow::engine::net_sums` meets its contract: the nets below `n` have their sums (`Summed`). Assumes nothing.
-use mathlib.Core.Path.{◌≡◌, refl, ◌∙◌}
-use Prim.Native.Nat.{◌≤◌, ◌-◌}
+use mathlib.Core.Path.{refl, ◌∙◌}
 use native.Mathlib.Nat.{not-suc-le-zero}
 use native.Mathlib.Omega.{arith}
-use lib.ListN.{length, length-set}
-use borrow.Author.Rules.{rules}
-use Rattle.flow.specs.Raise.{Summed}
+use lib.ListN.{length-set}
 use Rattle.flow.proofs.RaiseLaws.{summed-more, part_at}
 use Rattle.flow.proofs.engine.net_sums.Goals as goal
 

@@ -1,12 +1,8 @@
 -- `flow::engine::net_sums` meets its contract: the nets below `n` have their sums (`Summed`). Assumes nothing.
-use mathlib.Core.Path.{◌≡◌, refl, ◌∙◌}
+use mathlib.Core.Path.{◌≡◌}
 use Prim.Native.Nat.{◌≤◌, ◌-◌}
-use native.Mathlib.Nat.{not-suc-le-zero}
-use native.Mathlib.Omega.{arith}
-use lib.ListN.{length, length-set}
-use borrow.Author.Rules.{rules}
+use lib.ListN.{length}
 use Rattle.flow.specs.Raise.{Summed}
-use Rattle.flow.proofs.RaiseLaws.{summed-more, part_at}
 use Rattle.flow.proofs.engine.net_sums.Given as goal
 
 abbrev pub invariant-loop-n : goal.invariant-loop-n

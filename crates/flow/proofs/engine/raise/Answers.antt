@@ -1,14 +1,12 @@
 -- `flow::engine::raise` meets its contract: the flow is fair and the sums are its own (`Steady`); the measure is the value that is still to come. Assumes nothing.
-use mathlib.Core.Path.{subst₂, ◌≡◌, sym, ◌∙◌}
+use mathlib.Core.Path.{subst₂, sym, ◌∙◌}
 use mathlib.Core.List.{List}
 use Prim.Native.Nat.{ℕ}
 use native.Mathlib.Omega.{arith}
 use lib.IntN.{ℤ}
-use lib.ListN.{length}
-use borrow.Author.Tests.{not-false, not-true}
-use Rattle.flow.specs.Raise.{Steady, Raised}
+use Rattle.flow.specs.Raise.{Raised}
 use Rattle.flow.specs.Cards.{card_of, side_of}
-use Rattle.flow.proofs.WholeLaws.{whole_of, field_of, route-of, open_of, raised_of, to_come, comes-less, summable-of, steady-of}
+use Rattle.flow.proofs.WholeLaws.{whole_of, field_of, route-of, open_of, raised_of, comes-less, summable-of, steady-of}
 use Rattle.flow.proofs.CardLaws.{card-valid}
 use Rattle.flow.proofs.engine.raise.Goals as goal
 
@@ -52,7 +50,7 @@ loop-more-smaller c =
     let loop = c.loop-more in
     let searched = c.search in
     let push-makers = c.push_makers-more in
-    comes-less (card_of args.first.now args.mods.now args.weight.now args.mark.now) (card-valid args.first.now args.mods.now args.weight.now args.mark.now pre.0.laid) args.mods.now loop.sums _ loop.flow _ (push-makers.ensures (card_of args.first.now args.mods.now args.weight.now args.mark.now) (field_of args.first.now args.mods.now args.weight.now args.nets.now args.at.now args.pins.now args.mark.now pre.0.laid pre.0.tables pre.0.pins (λ e l. omega (arith, shared-slice-known3.given e)) loop.sums loop.flow loop.invariant.0 _ searched.ensures) (λ z l e i. route-of args.first.now args.mods.now args.weight.now args.nets.now args.at.now args.pins.now args.mark.now pre.0.laid pre.0.tables pre.0.pins (λ e l. omega (arith, shared-slice-known3.given e)) loop.sums loop.flow loop.invariant.0 _ searched.ensures z l e i) loop.invariant.0).gained ((push-makers.ensures (card_of args.first.now args.mods.now args.weight.now args.mark.now) (field_of args.first.now args.mods.now args.weight.now args.nets.now args.at.now args.pins.now args.mark.now pre.0.laid pre.0.tables pre.0.pins (λ e l. omega (arith, shared-slice-known3.given e)) loop.sums loop.flow loop.invariant.0 _ searched.ensures) (λ z l e i. route-of args.first.now args.mods.now args.weight.now args.nets.now args.at.now args.pins.now args.mark.now pre.0.laid pre.0.tables pre.0.pins (λ e l. omega (arith, shared-slice-known3.given e)) loop.sums loop.flow loop.invariant.0 _ searched.ensures z l e i) loop.invariant.0).some (not-false _ c.if-not-more.false) (λ z l e i. open_of args.first.now args.mods.now args.weight.now args.nets.now args.at.now args.pins.now args.mark.now pre.0.laid pre.0.tables pre.0.pins (λ e l. omega (arith, shared-slice-known3.given e)) loop.sums loop.flow loop.invariant.0 _ searched.ensures z l e i))
+    comes-less (card_of args.first.now args.mods.now args.weight.now args.mark.now) (card-valid args.first.now args.mods.now args.weight.now args.mark.now pre.0.laid) args.mods.now loop.sums _ loop.flow _ (push-makers.ensures (card_of args.first.now args.mods.now args.weight.now args.mark.now) (field_of args.first.now args.mods.now args.weight.now args.nets.now args.at.now args.pins.now args.mark.now pre.0.laid pre.0.tables pre.0.pins (λ e l. omega (arith, shared-slice-known3.given e)) loop.sums loop.flow loop.invariant.0 _ searched.ensures) (λ z l e i. route-of args.first.now args.mods.now args.weight.now args.nets.now args.at.now args.pins.now args.mark.now pre.0.laid pre.0.tables pre.0.pins (λ e l. omega (arith, shared-slice-known3.given e)) loop.sums loop.flow loop.invariant.0 _ searched.ensures z l e i) loop.invariant.0).gained ((push-makers.ensures (card_of args.first.now args.mods.now args.weight.now args.mark.now) (field_of args.first.now args.mods.now args.weight.now args.nets.now args.at.now args.pins.now args.mark.now pre.0.laid pre.0.tables pre.0.pins (λ e l. omega (arith, shared-slice-known3.given e)) loop.sums loop.flow loop.invariant.0 _ searched.ensures) (λ z l e i. route-of args.first.now args.mods.now args.weight.now args.nets.now args.at.now args.pins.now args.mark.now pre.0.laid pre.0.tables pre.0.pins (λ e l. omega (arith, shared-slice-known3.given e)) loop.sums loop.flow loop.invariant.0 _ searched.ensures z l e i) loop.invariant.0).some c.if-not-more.false (λ z l e i. open_of args.first.now args.mods.now args.weight.now args.nets.now args.at.now args.pins.now args.mark.now pre.0.laid pre.0.tables pre.0.pins (λ e l. omega (arith, shared-slice-known3.given e)) loop.sums loop.flow loop.invariant.0 _ searched.ensures z l e i))
 
 pub loop-more-preserved : goal.loop-more-preserved
 loop-more-preserved c =
@@ -107,5 +105,5 @@ returns c =
     let loop = c.loop-more in
     let searched = c.search in
     let push-makers = c.push_makers-more in
-    let n = (push-makers.ensures (card_of args.first.now args.mods.now args.weight.now args.mark.now) (field_of args.first.now args.mods.now args.weight.now args.nets.now args.at.now args.pins.now args.mark.now pre.0.laid pre.0.tables pre.0.pins (λ e l. omega (arith, shared-slice-known3.given e)) loop.sums loop.flow loop.invariant.0 _ searched.ensures) (λ z l e i. route-of args.first.now args.mods.now args.weight.now args.nets.now args.at.now args.pins.now args.mark.now pre.0.laid pre.0.tables pre.0.pins (λ e l. omega (arith, shared-slice-known3.given e)) loop.sums loop.flow loop.invariant.0 _ searched.ensures z l e i) loop.invariant.0).none (not-true _ c.if-not-more.true) in
-    subst₂ (λ (sm : List ℕ) (fl : List ℤ). Raised (card_of args.first.now args.mods.now args.weight.now args.mark.now) args.mods.now sm fl (side_of searched.new.1.1.1.1.1.1.1.1.1.1.1.0)) (sym n.1) (sym n.0) (raised_of args.first.now args.mods.now args.weight.now args.nets.now args.at.now args.pins.now args.mark.now pre.0.laid pre.0.tables pre.0.pins (λ e l. omega (arith, shared-slice-known3.given e)) loop.sums loop.flow loop.invariant.0 _ searched.ensures n.2)
+    let n = (push-makers.ensures (card_of args.first.now args.mods.now args.weight.now args.mark.now) (field_of args.first.now args.mods.now args.weight.now args.nets.now args.at.now args.pins.now args.mark.now pre.0.laid pre.0.tables pre.0.pins (λ e l. omega (arith, shared-slice-known3.given e)) loop.sums loop.flow loop.invariant.0 _ searched.ensures) (λ z l e i. route-of args.first.now args.mods.now args.weight.now args.nets.now args.at.now args.pins.now args.mark.now pre.0.laid pre.0.tables pre.0.pins (λ e l. omega (arith, shared-slice-known3.given e)) loop.sums loop.flow loop.invariant.0 _ searched.ensures z l e i) loop.invariant.0).none c.if-not-more.true in
+    subst₂ (λ (sm : List ℕ) (fl : List ℤ). Raised (card_of args.first.now args.mods.now args.weight.now args.mark.now) args.mods.now sm fl (side_of searched.new.how)) (sym n.1) (sym n.0) (raised_of args.first.now args.mods.now args.weight.now args.nets.now args.at.now args.pins.now args.mark.now pre.0.laid pre.0.tables pre.0.pins (λ e l. omega (arith, shared-slice-known3.given e)) loop.sums loop.flow loop.invariant.0 _ searched.ensures n.2)

@@ -1,15 +1,9 @@
 -- `flow::engine::raise` meets its contract: the flow is fair and the sums are its own (`Steady`); the measure is the value that is still to come. Assumes nothing.
-use mathlib.Core.Path.{subst₂, ◌≡◌, sym, ◌∙◌}
-use mathlib.Core.List.{List}
-use Prim.Native.Nat.{ℕ}
-use native.Mathlib.Omega.{arith}
-use lib.IntN.{ℤ}
+use mathlib.Core.Path.{◌≡◌}
 use lib.ListN.{length}
-use borrow.Author.Tests.{not-false, not-true}
-use Rattle.flow.specs.Raise.{Steady, Raised}
-use Rattle.flow.specs.Cards.{card_of, side_of}
-use Rattle.flow.proofs.WholeLaws.{whole_of, field_of, route-of, open_of, raised_of, to_come, comes-less, summable-of, steady-of}
-use Rattle.flow.proofs.CardLaws.{card-valid}
+use Rattle.flow.specs.Raise.{Steady}
+use Rattle.flow.specs.Cards.{card_of}
+use Rattle.flow.proofs.WholeLaws.{to_come}
 use Rattle.flow.proofs.engine.raise.Given as goal
 
 abbrev pub invariant-loop-more : goal.invariant-loop-more

@@ -1,11 +1,8 @@
 -- `flow::engine::still` meets its contract: the numbers before `p` are 0. Assumes nothing.
-use mathlib.Core.Path.{◌≡◌, refl, ◌∙◌}
+use mathlib.Core.Path.{◌≡◌}
 use Prim.Native.Nat.{ℕ, ◌≤◌, ◌<◌, ◌-◌}
-use native.Mathlib.Omega.{arith}
-use lib.ListN.{length, get_or, length-set}
+use lib.ListN.{length, get_or}
 use lib.IntN.{pos}
-use borrow.Author.Rules.{rules}
-use Rattle.flow.proofs.Raised.{zeros-more, zeros-still}
 use Rattle.flow.proofs.engine.still.Given as goal
 
 abbrev pub invariant-loop-p : goal.invariant-loop-p

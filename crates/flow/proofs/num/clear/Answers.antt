@@ -1,9 +1,7 @@
 -- `flow::num::clear` meets its contract: the places below `i` hold 0. Assumes nothing.
-use mathlib.Core.Path.{◌≡◌, refl, ◌∙◌}
-use Prim.Native.Nat.{ℕ, ◌≤◌, ◌<◌, ◌-◌}
+use mathlib.Core.Path.{refl, ◌∙◌}
 use native.Mathlib.Omega.{arith}
-use lib.ListN.{length, get_or, length-set}
-use borrow.Author.Rules.{rules}
+use lib.ListN.{length-set}
 use Rattle.flow.proofs.SearchLaws.{cleared}
 use Rattle.flow.proofs.num.clear.Goals as goal
 

@@ -1,10 +1,7 @@
 -- `flow::num::clear` meets its contract: the places below `i` hold 0. Assumes nothing.
-use mathlib.Core.Path.{◌≡◌, refl, ◌∙◌}
+use mathlib.Core.Path.{◌≡◌}
 use Prim.Native.Nat.{ℕ, ◌≤◌, ◌<◌, ◌-◌}
-use native.Mathlib.Omega.{arith}
-use lib.ListN.{length, get_or, length-set}
-use borrow.Author.Rules.{rules}
-use Rattle.flow.proofs.SearchLaws.{cleared}
+use lib.ListN.{length, get_or}
 use Rattle.flow.proofs.num.clear.Given as goal
 
 abbrev pub invariant-loop-i : goal.invariant-loop-i

@@ -1,6 +1,5 @@
 -- `flow::num::minus` meets its contract. Assumes nothing.
 use lib.IntN.{neg_ℤ}
-use borrow.Author.Rules.{rules}
 use Rattle.flow.proofs.Numbers.{shift-ok, shift_is, minus-fits}
 use Rattle.flow.proofs.num.minus.Goals as goal
 

@@ -1,6 +1,5 @@
 -- `flow::num::plus` meets its contract. Assumes nothing.
 use lib.IntN.{ℤ}
-use borrow.Author.Rules.{rules}
 use Rattle.flow.proofs.Numbers.{shift-ok, shift_is, plus-fits}
 use Rattle.flow.proofs.num.plus.Goals as goal
 

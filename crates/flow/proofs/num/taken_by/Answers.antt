@@ -1,5 +1,4 @@
 -- `flow::num::taken_by` meets its contract. Assumes nothing.
-use borrow.Author.Rules.{rules}
 use Rattle.flow.proofs.Numbers.{minus-ok, minus_is}
 use Rattle.flow.proofs.num.taken_by.Goals as goal
 

@@ -1,6 +1,5 @@
 -- `flow::push::push_from` meets its contract. Assumes nothing.
 use native.Mathlib.Omega.{arith}
-use borrow.Author.Rules.{rules}
 use Rattle.flow.proofs.RaiseLaws.{level-of, trail-of, carry-rest, carry-some, carry-none, way-most}
 use Rattle.flow.proofs.push.push_from.Goals as goal
 

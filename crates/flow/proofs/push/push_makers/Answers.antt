@@ -1,14 +1,12 @@
 -- `flow::push::push_makers` meets its contract: the makers below `z` have been pushed from (`Rounded`). Assumes nothing.
-use mathlib.Core.Logic.{⊎_elim}
-use mathlib.Core.Path.{◌≡◌, refl, ap, ◌∙◌, subst}
-use Prim.Native.Nat.{ℕ, ◌≤◌, ◌-◌}
+use mathlib.Core.Path.{refl, ◌∙◌, subst}
+use Prim.Native.Nat.{ℕ}
 use native.Mathlib.Nat.{le_antisymm}
 use native.Mathlib.Omega.{arith}
-use lib.ListN.{length}
-use borrow.Author.Rules.{rules}
 use Rattle.flow.specs.Raise.{Rounded}
 use Rattle.flow.proofs.RaiseLaws.{round-start, round-skip, round-push}
 use Rattle.flow.proofs.push.push_makers.Goals as goal
+use Rattle.flow.proofs.push.push_makers.Goals.{then-mark-z-eq2+then-how-z-ne0, then-mark-z-eq2+else-how-z-ne0, else-mark-z-eq2}
 
 pub loop-z-init : goal.loop-z-init
 loop-z-init c = (omega arith, round-start _ _ _ _ _ _ _, refl, refl)
@@ -34,13 +32,17 @@ push_from-requires c =
 pub loop-z-preserved : goal.loop-z-preserved
 loop-z-preserved c =
     let args = c.args in
-    let loop = c.loop-z in (
+    let loop = c.loop-z in
+    let after = c.if-mark-z-eq2 in
+    let skip = round-skip args.mods.now args.weight.now args.nets.now args.mark.now args.how.now args.sums.now args.flow.now loop.z loop.any loop.sums loop.flow loop.invariant.1 in (
       omega arith,
-      ⊎_elim (λ w. rw (w.9, w.10, w.11) (round-push args.mods.now args.weight.now args.nets.now args.mark.now args.how.now args.sums.now args.flow.now loop.z loop.any loop.sums loop.flow loop.invariant.1 _ _ c.loop-z-test.true w.0.taken (let n = w.2.taken in omega arith) w.5.ensures.1))
-          (⊎_elim (λ w. rw (w.3, w.4, w.5) (round-skip args.mods.now args.weight.now args.nets.now args.mark.now args.how.now args.sums.now args.flow.now loop.z loop.any loop.sums loop.flow loop.invariant.1 (λ e h. let z = w.2.left in absurd (omega arith))))
-          (λ w. rw (w.1, w.2, w.3) (round-skip args.mods.now args.weight.now args.nets.now args.mark.now args.how.now args.sums.now args.flow.now loop.z loop.any loop.sums loop.flow loop.invariant.1 (λ e h. w.0.left e)))) c.if-mark-z-eq2.branch,
-      ⊎_elim (λ w. ap length w.9 ∙ w.5.kept.1.1.1.1.1.1.0 ∙ loop.invariant.2) (⊎_elim (λ w. ap length w.3 ∙ loop.invariant.2) (λ w. ap length w.1 ∙ loop.invariant.2)) c.if-mark-z-eq2.branch,
-      ⊎_elim (λ w. ap length w.10 ∙ w.5.kept.1.1.1.1.1.1.1.0 ∙ loop.invariant.3) (⊎_elim (λ w. ap length w.4 ∙ loop.invariant.3) (λ w. ap length w.2 ∙ loop.invariant.3)) c.if-mark-z-eq2.branch,
+      elim after.branch [
+        | then-mark-z-eq2+then-how-z-ne0 w ↦ rw (w.sums-is, w.flow-is, w.any-is) (round-push args.mods.now args.weight.now args.nets.now args.mark.now args.how.now args.sums.now args.flow.now loop.z loop.any loop.sums loop.flow loop.invariant.1 _ _ c.loop-z-test.true w.if-mark-z-eq2.true (let n = w.if-how-z-ne0.true in omega arith) w.push_from.ensures.1)
+        | then-mark-z-eq2+else-how-z-ne0 w ↦ rw (w.sums-is, w.flow-is, w.any-is) (skip (λ e h. let z = w.if-how-z-ne0.false in absurd (omega arith)))
+        | else-mark-z-eq2 w ↦ rw (w.sums-is, w.flow-is, w.any-is) (skip (λ e h. w.if-mark-z-eq2.false e))
+      ],
+      after.auto.sums ∙ loop.invariant.2,
+      after.auto.flow ∙ loop.invariant.3,
     )
 
 pub shape_of-sums : goal.shape_of-sums

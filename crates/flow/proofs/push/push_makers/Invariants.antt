@@ -1,13 +1,8 @@
 -- `flow::push::push_makers` meets its contract: the makers below `z` have been pushed from (`Rounded`). Assumes nothing.
-use mathlib.Core.Logic.{⊎_elim}
-use mathlib.Core.Path.{◌≡◌, refl, ap, ◌∙◌, subst}
-use Prim.Native.Nat.{ℕ, ◌≤◌, ◌-◌}
-use native.Mathlib.Nat.{le_antisymm}
-use native.Mathlib.Omega.{arith}
+use mathlib.Core.Path.{◌≡◌}
+use Prim.Native.Nat.{◌≤◌, ◌-◌}
 use lib.ListN.{length}
-use borrow.Author.Rules.{rules}
 use Rattle.flow.specs.Raise.{Rounded}
-use Rattle.flow.proofs.RaiseLaws.{round-start, round-skip, round-push}
 use Rattle.flow.proofs.push.push_makers.Given as goal
 
 abbrev pub invariant-loop-z : goal.invariant-loop-z

@@ -6,7 +6,6 @@ use lib.IntN.{pos, neg_ℤ, ◌+ℤ◌}
 use lib.ListN.{get_or, length-set}
 use mir.Val.{to_z, of_z}
 use mir.Syntax.{w32}
-use borrow.Author.Rules.{rules}
 use Rattle.line.proofs.Push.{more-sent, less-sent}
 use Rattle.line.specs.Flow.{sent}
 use Rattle.flow.specs.Cards.{Small}

@@ -1,11 +1,10 @@
 -- `flow::push::push_way` meets its contract: what is still to be pushed from `u` on is what was to come (`OnWay`); the measure is the rank of `u`. Assumes nothing.
-use mathlib.Core.Path.{◌≡◌, refl, sym, ap, ◌∙◌, subst}
+use mathlib.Core.Path.{refl, sym, ap, ◌∙◌, subst}
 use Prim.Native.Nat.{ℕ}
 use native.Mathlib.Omega.{arith}
-use lib.ListN.{length, get_or}
-use borrow.Author.Rules.{rules}
-use Rattle.flow.specs.Search.{In, left, rank}
-use Rattle.flow.proofs.PushLaws.{OnWay, way-start, way_step, way-done, rest-pushable}
+use lib.ListN.{get_or}
+use Rattle.flow.specs.Search.{In, rank}
+use Rattle.flow.proofs.PushLaws.{way-start, way_step, way-done, rest-pushable}
 use Rattle.flow.proofs.Sets.{in-length}
 use Rattle.flow.proofs.push.push_way.Goals as goal
 

@@ -4,7 +4,6 @@ use Prim.Native.Nat.{ℕ, ◌-◌}
 use native.Mathlib.Omega.{arith}
 use lib.IntN.{pos}
 use lib.ListN.{get_or}
-use borrow.Author.Rules.{rules}
 use Rattle.line.specs.Flow.{sent, taken}
 use Rattle.flow.proofs.PushLaws.{room-1, room-2, room_0}
 use Rattle.flow.proofs.Numbers.{read_back}

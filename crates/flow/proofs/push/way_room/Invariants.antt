@@ -1,13 +1,9 @@
 -- `flow::push::way_room` meets its contract: `n.room` and the room from `u` on are the room of the whole way; the measure is the rank of `u`. Assumes nothing.
-use mathlib.Core.Path.{◌≡◌, sym, ap, ap₂, ◌∙◌, subst}
+use mathlib.Core.Path.{◌≡◌}
 use Prim.Native.Nat.{ℕ, suc, min, ◌≤◌, ◌<◌}
-use native.Mathlib.Omega.{arith}
 use lib.ListN.{length, get_or}
-use borrow.Author.Rules.{rules}
 use Rattle.flow.specs.Push.{way_room}
-use Rattle.flow.specs.Search.{In, left, rank}
-use Rattle.flow.proofs.PushLaws.{least-top, way-more, way_end}
-use Rattle.flow.proofs.Sets.{in-length}
+use Rattle.flow.specs.Search.{In, rank}
 use Rattle.flow.proofs.push.way_room.Given as goal
 
 abbrev pub invariant-loop-u : goal.invariant-loop-u

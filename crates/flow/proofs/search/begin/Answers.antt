@@ -1,14 +1,12 @@
 -- `flow::search::begin` meets its contract: the modules below `m` have been looked at (`Begun`). Assumes nothing.
-use mathlib.Core.Logic.{⊎_elim}
 use mathlib.Core.Path.{subst}
-use Prim.Native.Nat.{ℕ, ◌≤◌, ◌-◌}
+use Prim.Native.Nat.{ℕ}
 use native.Mathlib.Nat.{le_antisymm}
 use native.Mathlib.Omega.{arith}
-use lib.ListN.{length}
-use borrow.Author.Rules.{rules}
 use Rattle.flow.specs.Search.{Begun}
 use Rattle.flow.proofs.SearchLaws.{begun-none, begun-yes, begun-no}
 use Rattle.flow.proofs.search.begin.Goals as goal
+use Rattle.flow.proofs.search.begin.Goals.{then-mark-m, else-mark-m}
 
 pub loop-m-init : goal.loop-m-init
 loop-m-init c = (omega arith, begun-none _ _ _ _ c.requires.0 c.requires.1)
@@ -16,8 +14,13 @@ loop-m-init c = (omega arith, begun-none _ _ _ _ c.requires.0 c.requires.1)
 pub loop-m-preserved : goal.loop-m-preserved
 loop-m-preserved c =
     let loop = c.loop-m in
-    let loop-test = c.loop-m-test in
-    (omega arith, ⊎_elim (λ w. rw (w.3, w.4, w.5) (begun-yes _ _ loop.invariant.1 loop-test.true w.0.taken w.2.ensures w.1.ensures)) (λ w. rw (w.1, w.2, w.3) (begun-no _ _ loop.invariant.1 loop-test.true w.0.left)) c.if-mark-m.branch)
+    let loop-test = c.loop-m-test in (
+      omega arith,
+      elim c.if-mark-m.branch [
+        | then-mark-m w ↦ rw (w.queue-is, w.how-is, w.t-is) (begun-yes _ _ loop.invariant.1 loop-test.true w.if-mark-m.true w.pack.ensures w.narrow.ensures)
+        | else-mark-m w ↦ rw (w.queue-is, w.how-is, w.t-is) (begun-no _ _ loop.invariant.1 loop-test.true w.if-mark-m.false)
+      ],
+    )
 
 pub returns : goal.returns
 returns c =

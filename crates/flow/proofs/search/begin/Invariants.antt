@@ -1,13 +1,7 @@
 -- `flow::search::begin` meets its contract: the modules below `m` have been looked at (`Begun`). Assumes nothing.
-use mathlib.Core.Logic.{⊎_elim}
-use mathlib.Core.Path.{subst}
-use Prim.Native.Nat.{ℕ, ◌≤◌, ◌-◌}
-use native.Mathlib.Nat.{le_antisymm}
-use native.Mathlib.Omega.{arith}
+use Prim.Native.Nat.{◌≤◌, ◌-◌}
 use lib.ListN.{length}
-use borrow.Author.Rules.{rules}
 use Rattle.flow.specs.Search.{Begun}
-use Rattle.flow.proofs.SearchLaws.{begun-none, begun-yes, begun-no}
 use Rattle.flow.proofs.search.begin.Given as goal
 
 abbrev pub invariant-loop-m : goal.invariant-loop-m

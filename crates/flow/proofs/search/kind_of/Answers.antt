@@ -1,6 +1,5 @@
 -- `flow::search::kind_of` meets its contract. Assumes nothing.
 use native.Mathlib.Omega.{arith}
-use borrow.Author.Rules.{rules}
 use Rattle.flow.proofs.search.kind_of.Goals as goal
 
 pub returns-then-takes : goal.returns-then-takes

@@ -1,7 +1,6 @@
 -- `flow::search::picks` meets its contract. Assumes nothing.
 use mathlib.Core.Path.{◌∙◌}
 use mathlib.Core.Bool.{false}
-use borrow.Author.Rules.{rules}
 use Rattle.flow.proofs.Numbers.{read-sends}
 use Rattle.flow.proofs.search.picks.Goals as goal
 

@@ -1,11 +1,9 @@
 -- `flow::search::search` meets its contract: `Bfs`, with the queue's head and tail; the measure is the modules that the head has not passed. Assumes nothing.
 use mathlib.Core.Path.{sym, ◌∙◌, subst}
-use Prim.Native.Nat.{ℕ, ◌-◌}
+use Prim.Native.Nat.{ℕ}
 use native.Mathlib.Omega.{arith}
-use lib.ListN.{length}
-use borrow.Author.Rules.{rules}
-use Rattle.flow.specs.Search.{st, Whole}
-use Rattle.flow.proofs.SearchLaws.{Bfs, bfs-start, bfs-room, bfs-more, bfs-end, bfs-low}
+use Rattle.flow.specs.Search.{Whole}
+use Rattle.flow.proofs.SearchLaws.{bfs-start, bfs-room, bfs-more, bfs-end, bfs-low}
 use Rattle.flow.proofs.search.search.Goals as goal
 
 pub begin-tail-requires : goal.begin-tail-requires

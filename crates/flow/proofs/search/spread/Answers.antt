@@ -3,14 +3,16 @@ use Rattle.flow.proofs.Numbers.{read-sends, read-from}
 use Rattle.flow.proofs.Sets.{in-of, clash}
 use Rattle.flow.specs.Search.{Spread}
 use lib.IntN.{pos}
+use mir.Syntax.{w32}
+use mir.Val.{SFits}
 use lib.ListN.{get_or}
-use Prim.Native.Nat.{ℕ, ◌≤◌, ◌-◌}
+use Prim.Native.Nat.{ℕ}
 use native.Mathlib.Nat.{le_antisymm}
-use mathlib.Core.Logic.{⊎_elim}
 use mathlib.Core.Path.{sym, ◌∙◌, subst}
 use borrow.Author.Rules.{rules}
 use native.Mathlib.Omega.{arith}
 use Rattle.flow.proofs.search.spread.Goals as goal
+use Rattle.flow.proofs.search.spread.Goals.{then-how-m-eq0+then-g, then-how-m-eq0+else-g, else-how-m-eq0}
 
 pub loop-i-init : goal.loop-i-init
 loop-i-init c = (omega arith, omega arith, spread_none _ _ _ _ _ _ _ _ _ _)
@@ -40,15 +42,23 @@ pub bounds-how-m-then-g : goal.bounds-how-m-then-g
 bounds-how-m-then-g c = ranked c.requires.6 c.loop-i.invariant.2.grown c.loop-i.i c.wide-m.result (omega arith) c.wide-m.ensures
 
 pub loop-i-preserved : goal.loop-i-preserved
-loop-i-preserved c = let z = get_or c.args.flow.now c.loop-i.i (pos 0) in
-    let k = ranked c.requires.6 c.loop-i.invariant.2.grown c.loop-i.i c.wide-m.result (omega arith) c.wide-m.ensures in (
+loop-i-preserved c =
+    let z = get_or c.args.flow.now c.loop-i.i (pos 0) in
+    let m = c.wide-m in
+    let k = ranked c.requires.6 c.loop-i.invariant.2.grown c.loop-i.i m.result (omega arith) m.ensures in (
       omega arith,
       omega arith,
-      ⊎_elim (λ w. let f = marks c.requires.6 c.loop-i.invariant.2.grown c.wide-m.result k w.0.taken in
-          rw (w.8, w.9, w.10) (spread-mark _ _ _ _ _ _ _ c.loop-i.invariant.2 c.loop-i.invariant.0 (sym (w.2.ensures ∙ read-sends c.args.scan.all c.args.scan.back z w.1.given) ∙ w.3.taken)
-          c.wide-m.result c.wide-m.ensures w.0.taken f.place f.tail (w.6.ensures.0 ∙ read-from c.args.scan.back z c.args.scan.from c.args.scan.undo w.5.given) (omega (arith, w.6.ensures.1, c.requires.3, c.loop-i-test.true)) w.7.ensures (sym c.wide-m.ensures)))
-          (⊎_elim (λ w. rw (w.4, w.5, w.6) (spread-skip _ _ _ _ _ _ _ c.loop-i.invariant.2 (λ g. clash g (sym (w.2.ensures ∙ read-sends c.args.scan.all c.args.scan.back z w.1.given) ∙ w.3.left))))
-          (λ w. rw (w.1, w.2, w.3) (spread-skip _ _ _ _ _ _ _ c.loop-i.invariant.2 (λ g. in-of c.loop-i.how c.wide-m.ensures w.0.left)))) c.if-how-m-eq0.branch,
+      elim c.if-how-m-eq0.branch [
+        | then-how-m-eq0+then-g w ↦
+            let fits : SFits w32 z = search rules in
+            let f = marks c.requires.6 c.loop-i.invariant.2.grown m.result k w.if-how-m-eq0.true in
+            rw (w.queue-is, w.how-is, w.tail-is) (spread-mark _ _ _ _ _ _ _ c.loop-i.invariant.2 c.loop-i.invariant.0 (sym (w.picks-g.ensures ∙ read-sends c.args.scan.all c.args.scan.back z fits.sfits) ∙ w.if-g.true)
+            m.result m.ensures w.if-how-m-eq0.true f.place f.tail (w.way_from-from.ensures.0 ∙ read-from c.args.scan.back z c.args.scan.from c.args.scan.undo fits.sfits) (omega (arith, w.way_from-from.ensures.1, c.requires.3, c.loop-i-test.true)) w.pack.ensures (sym m.ensures))
+        | then-how-m-eq0+else-g w ↦
+            let fits : SFits w32 z = search rules in
+            rw (w.queue-is, w.how-is, w.tail-is) (spread-skip _ _ _ _ _ _ _ c.loop-i.invariant.2 (λ g. clash g (sym (w.picks-g.ensures ∙ read-sends c.args.scan.all c.args.scan.back z fits.sfits) ∙ w.if-g.false)))
+        | else-how-m-eq0 w ↦ rw (w.queue-is, w.how-is, w.tail-is) (spread-skip _ _ _ _ _ _ _ c.loop-i.invariant.2 (λ g. in-of c.loop-i.how m.ensures w.if-how-m-eq0.false))
+      ],
     )
 
 pub shape_of-queue : goal.shape_of-queue

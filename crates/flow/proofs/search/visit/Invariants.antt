@@ -1,13 +1,7 @@
 -- `flow::search::visit` meets its contract: the places below `i` of the module have been visited (`PinsDone`). Assumes nothing.
-use mathlib.Core.Path.{sym, ◌∙◌, subst}
-use Prim.Native.Nat.{ℕ, ◌≤◌, ◌-◌}
-use native.Mathlib.Nat.{le_antisymm}
-use native.Mathlib.Omega.{arith}
+use Prim.Native.Nat.{◌≤◌, ◌-◌}
 use lib.ListN.{get_or}
-use borrow.Author.Rules.{rules}
 use Rattle.flow.specs.Search.{st, PinsDone}
-use Rattle.flow.proofs.SpreadLaws.{room-more}
-use Rattle.flow.proofs.VisitLaws.{pins-start, pins-step, visit-of}
 use Rattle.flow.proofs.search.visit.Given as goal
 
 abbrev pub invariant-loop-i : goal.invariant-loop-i

@@ -11,7 +11,6 @@ use lib.ListN.{get_or}
 use Prim.Native.Nat.{ℕ, ◌<◌, ◌+◌}
 use mathlib.Core.Bool.{not}
 use mathlib.Core.Path.{sym, ap, ◌∙◌, subst}
-use borrow.Author.Rules.{rules}
 use native.Mathlib.Omega.{arith}
 use Rattle.flow.proofs.search.visit_pin.Goals as goal
 
@@ -82,4 +81,4 @@ pub spread-requires : goal.spread-requires
 spread-requires c = (omega (arith, (c.wide-lo.ensures ∙ ap (λ (k : ℕ). get_or c.args.first.now k 0) ((c.wide-n.ensures ∙ ap (λ (k : ℕ). get_or c.args.nets.now k 0) c.wide-p.ensures))), (c.wide-hi.ensures ∙ ap (λ (k : ℕ). get_or c.args.first.now (k + 1) 0) ((c.wide-n.ensures ∙ ap (λ (k : ℕ). get_or c.args.nets.now k 0) c.wide-p.ensures))), c.requires.0.on.low, c.requires.0.on.high), omega (arith, (c.wide-hi.ensures ∙ ap (λ (k : ℕ). get_or c.args.first.now (k + 1) 0) ((c.wide-n.ensures ∙ ap (λ (k : ℕ). get_or c.args.nets.now k 0) c.wide-p.ensures))), c.requires.0.ends), omega (arith, (c.wide-hi.ensures ∙ ap (λ (k : ℕ). get_or c.args.first.now (k + 1) 0) ((c.wide-n.ensures ∙ ap (λ (k : ℕ). get_or c.args.nets.now k 0) c.wide-p.ensures))), c.requires.0.ends, c.requires.0.flows), omega (arith, (c.wide-hi.ensures ∙ ap (λ (k : ℕ). get_or c.args.first.now (k + 1) 0) ((c.wide-n.ensures ∙ ap (λ (k : ℕ). get_or c.args.nets.now k 0) c.wide-p.ensures))), c.requires.0.ends, c.requires.0.few), omega (arith, c.pack_from-from.ensures, c.kind_of-kind.ensures.small, c.requires.0.pin, c.requires.0.few), omega (arith, c.pack_from-undo.ensures, c.requires.0.pin, c.requires.0.few), c.requires.1)
 
 pub returns : goal.returns
-returns c = subst (λ (k : ℕ). PinDone c.args.back c.args.first.now c.args.mods.now c.args.weight.now c.args.flow.now c.args.sums.now c.args.nets.now c.args.a (st c.args.queue.now c.args.how.now c.args.seen.now) c.args.t (st c.spread.new.1.1.1.1.0 c.spread.new.1.1.1.1.1.0 (set c.args.seen.now k c.seen_mark.result)) c.spread.result) (sym ((c.wide-n.ensures ∙ ap (λ (k : ℕ). get_or c.args.nets.now k 0) c.wide-p.ensures))) (pin-spread c.args.back c.args.first.now c.args.mods.now c.args.weight.now c.args.flow.now c.args.sums.now c.args.nets.now c.args.a c.kind_of-kind.result c.sends-takes.result c.requires.0 ((c.sends-takes.ensures ∙ ap (λ (f : ℤ). ltb 0 (gives (not c.args.back) f)) (read_back (get_or c.args.flow.now c.wide-p.result (pos 0)) c.sends-arg-1.given) ∙ ap (λ (k : ℕ). ltb 0 (gift (not c.args.back) c.args.flow.now k)) c.wide-p.ensures)) (subst (λ (k : ℕ). Kind (get_or c.args.sums.now k 0) (get_or c.args.weight.now k 0) c.sends-takes.result c.kind_of-kind.result) ((c.wide-n.ensures ∙ ap (λ (k : ℕ). get_or c.args.nets.now k 0) c.wide-p.ensures)) c.kind_of-kind.ensures) _ (kind-all c.kind_of-kind.result) (kind-some c.kind_of-kind.result) c.pack_from-from.result c.pack_from-undo.result c.seen_mark.result c.pack_from-from.ensures c.pack_from-undo.ensures c.seen_mark.ensures.0 c.seen_mark.ensures.1 (st c.args.queue.now c.args.how.now c.args.seen.now) c.args.t _ _ _ c.requires.2 (λ e. c.seen_enough-enough.ensures.1 c.if-enough.false (subst (λ (k : ℕ). Enough (get_or c.args.seen.now k 0) c.kind_of-kind.result) (sym ((c.wide-n.ensures ∙ ap (λ (k : ℕ). get_or c.args.nets.now k 0) c.wide-p.ensures))) e)) (omega (arith, c.requires.0.net, c.requires.3)) (spread_at ((c.wide-lo.ensures ∙ ap (λ (k : ℕ). get_or c.args.first.now k 0) ((c.wide-n.ensures ∙ ap (λ (k : ℕ). get_or c.args.nets.now k 0) c.wide-p.ensures)))) ((c.wide-hi.ensures ∙ ap (λ (k : ℕ). get_or c.args.first.now (k + 1) 0) ((c.wide-n.ensures ∙ ap (λ (k : ℕ). get_or c.args.nets.now k 0) c.wide-p.ensures)))) c.spread.ensures))
+returns c = subst (λ (k : ℕ). PinDone c.args.back c.args.first.now c.args.mods.now c.args.weight.now c.args.flow.now c.args.sums.now c.args.nets.now c.args.a (st c.args.queue.now c.args.how.now c.args.seen.now) c.args.t (st c.spread.new.queue c.spread.new.how (set c.args.seen.now k c.seen_mark.result)) c.spread.result) (sym ((c.wide-n.ensures ∙ ap (λ (k : ℕ). get_or c.args.nets.now k 0) c.wide-p.ensures))) (pin-spread c.args.back c.args.first.now c.args.mods.now c.args.weight.now c.args.flow.now c.args.sums.now c.args.nets.now c.args.a c.kind_of-kind.result c.sends-takes.result c.requires.0 ((c.sends-takes.ensures ∙ ap (λ (f : ℤ). ltb 0 (gives (not c.args.back) f)) (read_back (get_or c.args.flow.now c.wide-p.result (pos 0)) c.sends-arg-1.given) ∙ ap (λ (k : ℕ). ltb 0 (gift (not c.args.back) c.args.flow.now k)) c.wide-p.ensures)) (subst (λ (k : ℕ). Kind (get_or c.args.sums.now k 0) (get_or c.args.weight.now k 0) c.sends-takes.result c.kind_of-kind.result) ((c.wide-n.ensures ∙ ap (λ (k : ℕ). get_or c.args.nets.now k 0) c.wide-p.ensures)) c.kind_of-kind.ensures) _ (kind-all c.kind_of-kind.result) (kind-some c.kind_of-kind.result) c.pack_from-from.result c.pack_from-undo.result c.seen_mark.result c.pack_from-from.ensures c.pack_from-undo.ensures c.seen_mark.ensures.0 c.seen_mark.ensures.1 (st c.args.queue.now c.args.how.now c.args.seen.now) c.args.t _ _ _ c.requires.2 (λ e. c.seen_enough-enough.ensures.1 c.if-enough.false (subst (λ (k : ℕ). Enough (get_or c.args.seen.now k 0) c.kind_of-kind.result) (sym ((c.wide-n.ensures ∙ ap (λ (k : ℕ). get_or c.args.nets.now k 0) c.wide-p.ensures))) e)) (omega (arith, c.requires.0.net, c.requires.3)) (spread_at ((c.wide-lo.ensures ∙ ap (λ (k : ℕ). get_or c.args.first.now k 0) ((c.wide-n.ensures ∙ ap (λ (k : ℕ). get_or c.args.nets.now k 0) c.wide-p.ensures)))) ((c.wide-hi.ensures ∙ ap (λ (k : ℕ). get_or c.args.first.now (k + 1) 0) ((c.wide-n.ensures ∙ ap (λ (k : ℕ). get_or c.args.nets.now k 0) c.wide-p.ensures)))) c.spread.ensures))

@@ -2,7 +2,6 @@ use Rattle.flow.proofs.Numbers.{read-sends}
 use Rattle.flow.specs.Search.{way_from}
 use mathlib.Core.Bool.{Bool, false}
 use mathlib.Core.Path.{sym, ap, ◌∙◌}
-use borrow.Author.Rules.{rules}
 use Rattle.flow.proofs.search.way_from.Goals as goal
 
 pub returns-then-sends : goal.returns-then-sends
