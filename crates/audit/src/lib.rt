@@ -14,14 +14,14 @@ ghost use Rattle.audit.specs.Rules.{LentFlow, most_sent, sent_at, taken_at, bad_
 ghost use Rattle.audit.specs.Tallies.{Empty, Tally, Small, uneven, meters_to};
 
 // The answer of the checker.
-#[derive(Drop)]
+#[derive(Clone, Copy)]
 pub enum Checked {
     Accepted,
     Refused(book::Refusal),
 }
 
 // What the two rules say of a flow: why it is refused, or that it is fair, with what its meter modules send and what they take.
-#[derive(Drop)]
+#[derive(Clone, Copy)]
 enum Ruled {
     Refused(book::Refusal),
     Fair(u64, u64),

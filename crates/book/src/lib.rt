@@ -10,7 +10,7 @@ ghost use Rattle.book.specs.Answer.{number_of, place_of};
 ghost use Rattle.book.specs.Checks.{rest_of, read_of};
 
 // The counts of a book, and the largest numbers of every book.
-#[derive(Drop)]
+#[derive(Clone, Copy)]
 pub struct Book {
     pub modules: usize,
     pub nets: usize,
@@ -35,7 +35,7 @@ impl Book {
 }
 
 // Why a call says no: a case for each number of document 01, 1 to 14, with its place where it has one.
-#[derive(Drop)]
+#[derive(Clone, Copy)]
 pub enum Refusal {
     Layout,
     Counts,
@@ -100,27 +100,27 @@ impl Refusal {
 }
 
 // The answer of the reader.
-#[derive(Drop)]
+#[derive(Clone, Copy)]
 pub enum Reading {
     Good(Book),
     Refused(Refusal),
 }
 
 // What a search over places finds: a place, or nothing.
-#[derive(Drop)]
+#[derive(Clone, Copy)]
 pub enum Found {
     At(usize),
     Nothing,
 }
 
 // A place in a book.
-#[derive(Drop)]
+#[derive(Clone, Copy)]
 pub struct Cursor {
     pub at: usize,
 }
 
 // A step of a cursor: the number it stood at and the cursor after it, or the end of the book.
-#[derive(Drop)]
+#[derive(Clone, Copy)]
 pub enum Step {
     Number(usize, Cursor),
     End,

@@ -45,7 +45,7 @@ pub fn step_room(weight: &[u16], nets: &[u16], sums: &[u32], flow: &[i32], x: u6
 }
 
 // The least room on a way, and the module nearest to the meter whose step has no more.
-#[derive(Drop)]
+#[derive(Clone, Copy)]
 pub struct Narrow {
     pub room: u32,
     pub at: usize,

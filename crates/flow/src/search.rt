@@ -2,7 +2,7 @@ ghost use Rattle.std.specs.Prelude.{◌≡◌, true, false, ◌+◌, ◌*◌, �
 ghost use Rattle.flow.specs.Search.{or, gives, way_from, st, Room, Spread, PinDone, PinsDone, Whole, Seen, Begun, Sizes, Found, Kind, Enough, Visit, Mark};
 
 // How the pins of one net are gone through: the pins lo .. hi, all of them or those that send; `from` is the pin left and the kind of step.
-#[derive(Drop)]
+#[derive(Clone, Copy)]
 struct Scan {
     lo: usize,
     hi: usize,

@@ -5,7 +5,7 @@ ghost use Rattle.std.specs.Prelude.{◌≡◌};
 ghost use Rattle.gate.specs.Gates.{good_gate, share_low, share_high, band_of, band_says};
 
 // A gate is one of three: open, a share, or two bounds.
-#[derive(Drop)]
+#[derive(Clone, Copy)]
 pub enum Gate {
     Open,
     Share { r: f64, e: f64 },
@@ -13,14 +13,14 @@ pub enum Gate {
 }
 
 // The worked-out gate.
-#[derive(Drop)]
+#[derive(Clone, Copy)]
 pub struct Band {
     pub low: f64,
     pub high: f64,
 }
 
 // What a gate says of an area.
-#[derive(Drop)]
+#[derive(Clone, Copy)]
 pub enum Verdict {
     Below,
     Within,

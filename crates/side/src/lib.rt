@@ -13,21 +13,21 @@ ghost use Rattle.side.specs.Prices.{most_number, most_area, most_price, priced};
 ghost use Rattle.side.specs.Moves.{is_free, change_of, changed_good, changed, apart_of, crosses_with};
 
 // The answer of the call that prices a side.
-#[derive(Drop)]
+#[derive(Clone, Copy)]
 pub enum Priced {
     Price(usize),
     Refused(book::Refusal),
 }
 
 // The answer of the call that tells what a move changes.
-#[derive(Drop)]
+#[derive(Clone, Copy)]
 pub enum Moved {
     Change(i64),
     Refused(book::Refusal),
 }
 
 // What the checks before either call find of a given side.
-#[derive(Drop)]
+#[derive(Clone, Copy)]
 enum Given {
     Good,
     Refused(book::Refusal),

@@ -1,6 +1,6 @@
 -- The checker accepts what the split answers, and with it every cheapest side that fits and every greatest flow, with that price and no other. Assumes nothing.
 -- `Bytes l` says that the numbers of the list l are bytes.
-use Rattle.core.specs.Prelude.{◌≡◌, ℕ, ◌≤◌, ◌↔◌, List, length, ℤ}
+use Rattle.std.specs.Prelude.{◌≡◌, ℕ, ◌≤◌, ◌↔◌, List, length, ℤ}
 use mathlib.Core.Path.{sym, subst}
 use native.Mathlib.Omega.{arith}
 use Rattle.line.specs.Card.{Side, price, Separates, Cheapest}

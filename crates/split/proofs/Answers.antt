@@ -1,6 +1,6 @@
 -- What an answer of the split tells, and that it is a price exactly where the book reads and no lent buffer is short; else the refusal of document 01, with nothing written.
 -- Assumes nothing.
-use Rattle.core.specs.Prelude.{◌≡◌, ℕ, ◌≤◌, Bool, true, false, List, []}
+use Rattle.std.specs.Prelude.{◌≡◌, ℕ, ◌≤◌, Bool, true, false, List, []}
 use mathlib.Core.Path.{refl, sym, ap, subst, ◌∙◌}
 use mathlib.Core.Bool.{true≢false}
 use native.Mathlib.Omega.{arith}

@@ -1,6 +1,6 @@
 -- A split's sides among all cheapest sides, and the splits of two books: the order of nets and pins changes nothing; one module more pinned to the meter lets the near
 -- side grow, and one more pinned to the maker lets the far side shrink. Assumes nothing.
-use Rattle.core.specs.Prelude.{◌≡◌, ℕ, ◌<◌, ◌≤◌, not, T, List}
+use Rattle.std.specs.Prelude.{◌≡◌, ℕ, ◌<◌, ◌≤◌, not, T, List}
 use mathlib.Core.Path.{sym, ap, ◌∙◌}
 use native.Mathlib.Omega.{arith}
 use Rattle.line.specs.Card.{Net, Side, price, Cheapest, Inside, Near, Far, Alike, remark, pin, Reordered}

@@ -1,5 +1,5 @@
 -- What a split answers is least and greatest: its price is the lowest of a side that separates, both its sides have it, and no fair flow has a larger value. Assumes nothing.
-use Rattle.core.specs.Prelude.{◌≡◌, ℕ, ◌≤◌, List, take, ℤ, pos, ◌≤ℤ◌}
+use Rattle.std.specs.Prelude.{◌≡◌, ℕ, ◌≤◌, List, take, ℤ, pos, ◌≤ℤ◌}
 use mathlib.Core.Path.{sym, ap, ◌∙◌}
 use Rattle.line.specs.Card.{Side, price, Separates, Cheapest, Near, Far}
 use Rattle.line.specs.Flow.{Fair, value}

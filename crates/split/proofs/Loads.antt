@@ -1,5 +1,5 @@
 -- The numbers of a sound book fit the engine's slices. Assumes nothing.
-use Rattle.core.specs.Prelude.{◌≡◌, ℕ, ◌≤◌, List}
+use Rattle.std.specs.Prelude.{◌≡◌, ℕ, ◌≤◌, List}
 use mathlib.Core.Path.{refl}
 use native.Mathlib.Omega.{arith}
 use Rattle.book.specs.Format.{nets, pins, first_pin}

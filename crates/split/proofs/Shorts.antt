@@ -1,5 +1,5 @@
 -- Check 8 of the split: the test passes exactly where no lent buffer is shorter than the call needs. Assumes nothing.
-use Rattle.core.specs.Prelude.{◌≡◌, ℕ, ◌<◌, Bool, true, false, ◌||◌, ltb, List, length}
+use Rattle.std.specs.Prelude.{◌≡◌, ℕ, ◌<◌, Bool, true, false, ◌||◌, ltb, List, length}
 use mathlib.Core.Path.{refl}
 use mathlib.Core.Bool.{or-true}
 use borrow.Author.Tests.{ltb-true, lt-ltb, le-ltb}

@@ -1,6 +1,6 @@
 -- A book with two splits: their answer and their sides are one, and their flows are two fair ones of one value. Assumes nothing.
 -- From meter 0 there are two ways on, by module 1 and by module 2, and both end in the one net to maker 3; each net has weight 1, so the price is 1.
-use Rattle.core.specs.Prelude.{◌≡◌, ℕ, zero, suc, ◌<◌, Bool, true, false, ◌&&◌, T, leb, List, [], ◌∷◌, get_or, replicate, ℤ, pos, negsuc}
+use Rattle.std.specs.Prelude.{◌≡◌, ℕ, zero, suc, ◌<◌, Bool, true, false, ◌&&◌, T, leb, List, [], ◌∷◌, get_or, replicate, ℤ, pos, negsuc}
 use mathlib.Core.Path.{refl, ap, ◌∙◌}
 use native.Mathlib.Omega.{arith}
 use lib.Dec.{leb→le, lit≤}

@@ -1,5 +1,5 @@
 -- Any two results that the split's contract allows are one but for the flow's numbers: those may differ, at one value. Assumes nothing.
-use Rattle.core.specs.Prelude.{◌≡◌, ℕ, ◌<◌, List, ◌++◌, length, get_or, take, drop, ℤ, pos}
+use Rattle.std.specs.Prelude.{◌≡◌, ℕ, ◌<◌, List, ◌++◌, length, get_or, take, drop, ℤ, pos}
 use mathlib.Core.Path.{refl, sym, ap, ◌∙◌}
 use lib.Seq.{length-take-le}
 use Rattle.line.specs.Card.{price}

@@ -1,5 +1,5 @@
 -- What the engine makes of a card: both sides as rows of bits, and a fair flow. Definitions only.
-use Rattle.core.specs.Prelude.{◌≡◌, ℕ, ◌<◌, ◌≤◌, List, length, drop, ℤ, pos, slice_index_or}
+use Rattle.std.specs.Prelude.{◌≡◌, ℕ, ◌<◌, ◌≤◌, List, length, drop, ℤ, pos, slice_index_or}
 use Rattle.line.specs.Card.{Card, price, Near, Far}
 use Rattle.line.specs.Flow.{Fair, value}
 use Rattle.side.specs.Sides.{side_of, bytes_for, SpareClear}

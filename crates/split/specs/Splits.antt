@@ -1,5 +1,5 @@
 -- The call that splits a book: what it answers and what it writes, whatever the bytes. Definitions only.
-use Rattle.core.specs.Prelude.{◌≡◌, ℕ, ◌≤◌, Bool, true, false, ◌||◌, List, length, take, drop, ℤ, nat_lt}
+use Rattle.std.specs.Prelude.{◌≡◌, ℕ, ◌≤◌, Bool, true, false, ◌||◌, List, length, take, drop, ℤ, nat_lt}
 use Rattle.line.specs.Card.{price}
 use Rattle.book.specs.Format.{modules, pins}
 use Rattle.book.specs.Checks.{read_of}

@@ -1,5 +1,5 @@
 -- When the split answers a price, and when it refuses and with what, in the page's words. This page holds definitions only.
-use Rattle.core.specs.Prelude.{◌≡◌, ℕ, ◌<◌, List, length}
+use Rattle.std.specs.Prelude.{◌≡◌, ℕ, ◌<◌, List, length}
 use Rattle.book.specs.declared.Reading.TheVariants as reading
 use Rattle.book.specs.declared.Refusal.{Refusal}
 use Rattle.book.specs.declared.Refusal.TheVariants.{Buffer}

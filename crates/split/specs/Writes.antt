@@ -1,5 +1,5 @@
 -- A side written module by module, from what a search says of each. Definitions only.
-use Rattle.core.specs.Prelude.{◌≡◌, ℕ, ◌/◌, ◌%◌, ◌<◌, Bool, true, false, cond, not, List, length, drop, ◌==◌, nat_lt, slice_index, slice_set}
+use Rattle.std.specs.Prelude.{◌≡◌, ℕ, ◌/◌, ◌%◌, ◌<◌, Bool, true, false, cond, not, List, length, drop, ◌==◌, nat_lt, slice_index, slice_set}
 use Rattle.side.specs.Sides.{side_of, bytes_for, SpareClear, with_bit}
 
 -- the byte of module m cleared, where m is its first

@@ -1,5 +1,5 @@
 // The engine's answer written as a side.
-ghost use Rattle.core.specs.Prelude.{◌≡◌, ◌/◌, ◌<◌, ◌≤◌, length};
+ghost use Rattle.std.specs.Prelude.{◌≡◌, ◌/◌, ◌<◌, ◌≤◌, length};
 ghost use Rattle.side.specs.Sides.{bytes_for};
 ghost use Rattle.split.specs.Writes.{opened, wrote, picked_of, Written};
 

@@ -2,10 +2,10 @@
 #![tactic(auto)]
 
 pub mod bits;
-pub mod core;
+pub mod engine;
 pub mod load;
 
-ghost use Rattle.core.specs.Prelude.{◌≡◌, ◌+◌, length};
+ghost use Rattle.std.specs.Prelude.{◌≡◌, ◌+◌, length};
 ghost use Rattle.line.specs.Card.{price};
 ghost use Rattle.book.specs.Format.{modules, nets, pins};
 ghost use Rattle.book.specs.Cards.{nets_of, card_of};
@@ -17,7 +17,7 @@ ghost use Rattle.split.specs.Splits.{buffers, Room, Holds, SplitIf, Split, too_s
 use book::Book;
 
 // The answer of the split.
-#[derive(Drop)]
+#[derive(Clone, Copy)]
 pub enum Parted {
     Price(usize),
     Refused(book::Refusal),
@@ -42,7 +42,7 @@ fn split_loaded(
     load::weights(book, &mut *weight);
     load::marks(book, &mut *mark);
     flow::engine::still(&mut *flow);
-    core::solve(&*first, &*mods, &*weight, &*mark, near, far, flow);
+    engine::solve(&*first, &*mods, &*weight, &*mark, near, far, flow);
 }
 
 // The same with slices of its own; the price is the value of the flow.

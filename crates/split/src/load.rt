@@ -1,5 +1,5 @@
 // A book's numbers as the engine's slices: the first pin of each net and the end of the last, the module of each pin, the weights, the marks.
-ghost use Rattle.core.specs.Prelude.{◌≡◌, ◌+◌, ◌<◌, length};
+ghost use Rattle.std.specs.Prelude.{◌≡◌, ◌+◌, ◌<◌, length};
 ghost use Rattle.book.specs.Format.{modules, nets, pins, mark, weight, pin, first_pin};
 ghost use Rattle.book.specs.Listed.{listed};
 ghost use Rattle.book.specs.Sound.{Sound};

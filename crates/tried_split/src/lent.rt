@@ -5,7 +5,7 @@ use crate::{make, say};
 use split::Parted;
 
 // What is known of a row beforehand: the modules and pins of its book, and whether the checker is asked.
-#[derive(Drop)]
+#[derive(Clone, Copy)]
 pub struct Ask {
     pub modules: usize,
     pub pins: usize,

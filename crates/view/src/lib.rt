@@ -24,14 +24,14 @@ const SIDE_ROOM: usize = 5 + 20 + 14 + 20 + 1 + 5 * Book::MODULES;
 pub const ROOM: usize = 6 + 20 + 1 + 2 * SIDE_ROOM;
 
 // The answer of the listing: the length of its text, or that the lent bytes have less than `ROOM`.
-#[derive(Drop)]
+#[derive(Clone, Copy)]
 pub enum Listed {
     Text(usize),
     Short,
 }
 
 // A book that is being read: its lent bytes and the place reached.
-#[derive(Drop)]
+#[derive(Clone, Copy)]
 pub struct View<'a> {
     pub book: &'a [u8],
     pub at: usize,

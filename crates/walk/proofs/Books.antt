@@ -1,6 +1,6 @@
 -- The walk over books: prices never fall from row to row, there are at most f + 1 rounds, and each row is that of a near side for the modules then pinned, which
 -- is cheapest among all that separate them and lies inside every cheapest one. Assumes nothing.
-use Rattle.core.specs.Prelude.{◌≡◌, ℕ, zero, suc, ◌+◌, ◌<◌, ◌≤◌, List, length, get_or}
+use Rattle.std.specs.Prelude.{◌≡◌, ℕ, zero, suc, ◌+◌, ◌<◌, ◌≤◌, List, length, get_or}
 use mathlib.Core.Path.{refl}
 use native.Mathlib.Omega.{arith}
 use native.Mathlib.Nat.{not-suc-le-zero, le_of_suc-le-suc}

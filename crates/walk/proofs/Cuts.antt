@@ -1,6 +1,6 @@
 -- The modules with a pin on a net that X cuts, net by net and pin by pin as a row of bits is filled: it is cleared (`zero-next`, `cleared`), what is put on adds up (`adds_then`), the modules
 -- of a net are put on (`net-next`), and of each net that is cut (`cut-next`, `cut-row`). Assumes nothing.
-use Rattle.core.specs.Prelude.{◌≡◌, ℕ, ◌+◌, ◌/◌, ◌%◌, ◌^◌, ◌<◌, Bool, true, false, ◌&&◌, ◌||◌, eqb, ltb, List, length, get_or, take, set}
+use Rattle.std.specs.Prelude.{◌≡◌, ℕ, ◌+◌, ◌/◌, ◌%◌, ◌^◌, ◌<◌, Bool, true, false, ◌&&◌, ◌||◌, eqb, ltb, List, length, get_or, take, set}
 use mathlib.Core.Path.{refl, sym, ap, ◌∙◌}
 use mathlib.Core.Bool.{or_assoc, or-false}
 use native.Mathlib.Numerals.{add-one}

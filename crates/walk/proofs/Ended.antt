@@ -1,5 +1,5 @@
 -- A row of bits whose spare bits are 0 is the bytes of its side (`side-row`), and what the last round came to is what the call answers (`finish-stops`, `finish-ends`). Assumes nothing.
-use Rattle.core.specs.Prelude.{◌≡◌, ℕ, zero, suc, ◌+◌, ◌*◌, ◌/◌, ◌%◌, ◌^◌, ◌<◌, ◌≤◌, Bool, true, false, cond, ◌&&◌, eqb, ltb, List, length, get_or, take}
+use Rattle.std.specs.Prelude.{◌≡◌, ℕ, zero, suc, ◌+◌, ◌*◌, ◌/◌, ◌%◌, ◌^◌, ◌<◌, ◌≤◌, Bool, true, false, cond, ◌&&◌, eqb, ltb, List, length, get_or, take}
 use mathlib.Core.Path.{refl, sym, ap, ap₂, ◌∙◌}
 use native.Mathlib.Nat.{div-one, pow-zero, pow-succ', div-div-eq-div-mul}
 use native.Mathlib.Numerals.{add-one}

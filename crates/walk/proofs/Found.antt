@@ -1,5 +1,5 @@
 -- The side that a walk finds has the last row (`found-last`), separates the first marks (`found-separates`), and has an area within the gate (`found_within`). Assumes nothing.
-use Rattle.core.specs.Prelude.{◌≡◌, ℕ, zero, suc, List, length, get_or}
+use Rattle.std.specs.Prelude.{◌≡◌, ℕ, zero, suc, List, length, get_or}
 use mathlib.Core.Path.{refl}
 use native.Mathlib.Omega.{arith}
 use Rattle.line.specs.Card.{Card, Side, Separates, area_to, remark}

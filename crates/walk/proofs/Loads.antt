@@ -1,5 +1,5 @@
 -- The book's slices as they are loaded are those that the rounds ask for. Assumes nothing.
-use Rattle.core.specs.Prelude.{◌≡◌, ℕ, ◌+◌, List, length}
+use Rattle.std.specs.Prelude.{◌≡◌, ℕ, ◌+◌, List, length}
 use mathlib.Core.Path.{refl, sym, ap, ◌∙◌, subst}
 use native.Mathlib.Omega.{arith}
 use Rattle.book.specs.Format.{modules, nets, pins, mark, weight, pin}

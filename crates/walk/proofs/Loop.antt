@@ -1,6 +1,6 @@
 -- The walk as a loop: after the rows so far it stands at some marks (`Stands`); a round takes it on and leaves fewer modules free (`round-goes`, `round-measure`), or makes a walk of the rows
 -- (`round-stops`, `round-ends`); and there is always room for a row (`stands-room`). Assumes nothing.
-use Rattle.core.specs.Prelude.{◌≡◌, ℕ, ◌+◌, ◌<◌, ◌≤◌, List, [], ◌∷◌, ◌++◌, length}
+use Rattle.std.specs.Prelude.{◌≡◌, ℕ, ◌+◌, ◌<◌, ◌≤◌, List, [], ◌∷◌, ◌++◌, length}
 use mathlib.Core.Path.{refl, sym, ap, ◌∙◌}
 use mathlib.Core.List.{append_assoc}
 use native.Mathlib.Omega.{arith}

@@ -1,5 +1,5 @@
 -- The marks after a round, module by module (`pinned-next`), the free modules counted (`free_more`), and a search that has not begun (`lowest_start`). Assumes nothing.
-use Rattle.core.specs.Prelude.{◌≡◌, ℕ, ◌+◌, ◌<◌, Bool, cond, ◌&&◌, eqb, List, length, get_or, set}
+use Rattle.std.specs.Prelude.{◌≡◌, ℕ, ◌+◌, ◌<◌, Bool, cond, ◌&&◌, eqb, List, length, get_or, set}
 use mathlib.Core.Path.{refl, sym, ap, ◌∙◌}
 use native.Mathlib.Numerals.{add-one}
 use native.Mathlib.Omega.{arith}

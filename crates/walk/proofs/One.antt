@@ -1,6 +1,6 @@
 -- There is one walk: two walks of one card from one set of marks under one gate have the same rows and come to the same (`walks-one`), and so have one answer (`answer-one`).
 -- Assumes nothing.
-use Rattle.core.specs.Prelude.{◌≡◌, ℕ, List, [], ◌∷◌}
+use Rattle.std.specs.Prelude.{◌≡◌, ℕ, List, [], ◌∷◌}
 use mathlib.Core.Path.{refl, ap}
 use native.Mathlib.Omega.{arith}
 use Rattle.line.specs.Card.{Card, Alike}

@@ -1,5 +1,5 @@
 -- Prices never fall from row to row (`prices-rise`). Assumes nothing.
-use Rattle.core.specs.Prelude.{ℕ, zero, suc, ◌<◌, ◌≤◌, List, [], ◌∷◌, length, get_or}
+use Rattle.std.specs.Prelude.{ℕ, zero, suc, ◌<◌, ◌≤◌, List, [], ◌∷◌, length, get_or}
 use native.Mathlib.Omega.{arith}
 use native.Mathlib.Nat.{not-suc-le-zero, le_trans, le_of_suc-le-suc}
 use Rattle.line.specs.Card.{Card, Side, price, Near, remark}

@@ -1,6 +1,6 @@
 -- A round depends on marks and sides below the number of modules alone, takes a free module and leaves fewer free (`round-less`), so that there are at most f + 1 rounds (`walks-rounds`).
 -- Assumes nothing.
-use Rattle.core.specs.Prelude.{◌≡◌, ℕ, suc, ◌+◌, ◌<◌, ◌≤◌, Bool, true, false, cond, not, ◌&&◌, ◌||◌, T, eqb, List, [], ◌∷◌, ◌++◌, length, take}
+use Rattle.std.specs.Prelude.{◌≡◌, ℕ, suc, ◌+◌, ◌<◌, ◌≤◌, Bool, true, false, cond, not, ◌&&◌, ◌||◌, T, eqb, List, [], ◌∷◌, ◌++◌, length, take}
 use mathlib.Core.Path.{refl, sym, ap, ◌∙◌}
 use mathlib.Core.Bool.{or-false, or_assoc}
 use mathlib.Core.List.Memᴰ

@@ -1,5 +1,5 @@
 -- From the walk as it ended to what the call leaves (`wrote`), by way of its checks (`bad-gate`, `short-buffer`, `passed`, `read-refuses`, `read-good`). Assumes nothing.
-use Rattle.core.specs.Prelude.{◌≡◌, ℕ, ◌≤◌, Bool, true, false, cond, eqb, ltb, List, length}
+use Rattle.std.specs.Prelude.{◌≡◌, ℕ, ◌≤◌, Bool, true, false, cond, eqb, ltb, List, length}
 use mathlib.Core.Path.{ap, ap₂, ◌∙◌}
 use native.Mathlib.Omega.{arith}
 use borrow.Author.Tests.{ltb-false}

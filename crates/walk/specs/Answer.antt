@@ -1,5 +1,5 @@
 -- The answer of the walk's call. This page holds definitions only.
-use Rattle.core.specs.Prelude.{◌≡◌, ℕ, cond, List, ◌==◌}
+use Rattle.std.specs.Prelude.{◌≡◌, ℕ, cond, List, ◌==◌}
 use Rattle.book.specs.Format.{modules}
 use Rattle.book.specs.Answer.{number_of, place_of}
 use Rattle.book.specs.declared.Refusal.TheVariants as refusal

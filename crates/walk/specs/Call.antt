@@ -1,5 +1,5 @@
 -- The walk's call, in the words of document 01: what it answers, and what each lent buffer holds afterwards, whatever came in. This page holds definitions only.
-use Rattle.core.specs.Prelude.{◌≡◌, ℕ, zero, suc, ◌+◌, ◌*◌, ◌/◌, ◌%◌, Bool, true, false, cond, not, ◌&&◌, ◌||◌, List, [], ◌∷◌, ◌++◌, length, drop, nat_lt}
+use Rattle.std.specs.Prelude.{◌≡◌, ℕ, zero, suc, ◌+◌, ◌*◌, ◌/◌, ◌%◌, Bool, true, false, cond, not, ◌&&◌, ◌||◌, List, [], ◌∷◌, ◌++◌, length, drop, nat_lt}
 use Rattle.line.specs.Card.{Side, whole_area}
 use Rattle.book.specs.Listed.{listed}
 use Rattle.book.specs.Format.{modules, area, mark}

@@ -1,5 +1,5 @@
 -- What the parts of a round leave in their rows of bytes. This page holds definitions only.
-use Rattle.core.specs.Prelude.{◌≡◌, ℕ, ◌<◌, Bool, true, false, ◌&&◌, ◌||◌, List, length, slice_index}
+use Rattle.std.specs.Prelude.{◌≡◌, ℕ, ◌<◌, Bool, true, false, ◌&&◌, ◌||◌, List, length, slice_index}
 use Rattle.std.proofs.Math.Seq.{paste}
 use Rattle.line.specs.Card.{Side, outside, touches, crosses, pin}
 use Rattle.line.specs.Flow.{only}

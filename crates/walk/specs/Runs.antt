@@ -1,5 +1,5 @@
 -- The rounds together: what the walk has come to, and what the rows hold. This page holds definitions only.
-use Rattle.core.specs.Prelude.{◌≡◌, ℕ, cond, List, length, take, ◌==◌}
+use Rattle.std.specs.Prelude.{◌≡◌, ℕ, cond, List, length, take, ◌==◌}
 use Rattle.line.specs.Card.{price}
 use Rattle.book.specs.Format.{modules, area, mark}
 use Rattle.book.specs.Cards.{nets_of, card_of}

@@ -1,5 +1,5 @@
 -- The balancing walk, in the words of document 01. This page holds definitions only.
-use Rattle.core.specs.Prelude.{◌≡◌, ℕ, Bool, false, ◌&&◌, ◌||◌, List, [], ◌∷◌, length, ◌==◌}
+use Rattle.std.specs.Prelude.{◌≡◌, ℕ, Bool, false, ◌&&◌, ◌||◌, List, [], ◌∷◌, length, ◌==◌}
 use Rattle.line.specs.Card.{Net, Card, Side, outside, either, touches, crosses, price, Near, Alike, area_to, count_to, remark, pin}
 use Rattle.line.specs.Flow.{only}
 use Rattle.book.specs.First.{or_else, lowest}

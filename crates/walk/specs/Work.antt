@@ -1,5 +1,5 @@
 -- The slices that a round works on, and what it leaves. This page holds definitions only.
-use Rattle.core.specs.Prelude.{◌≡◌, ℕ, ◌+◌, ◌<◌, ◌≤◌, Bool, true, false, not, List, length}
+use Rattle.std.specs.Prelude.{◌≡◌, ℕ, ◌+◌, ◌<◌, ◌≤◌, Bool, true, false, not, List, length}
 use Rattle.line.specs.Card.{Card, Side, Near, Alike, price}
 use Rattle.book.specs.Checks.{most_modules, most_nets, most_pins}
 use Rattle.book.specs.Format.{modules, nets, pins, area}

@@ -1,5 +1,5 @@
 // The module that a round takes, and the marks after it.
-ghost use Rattle.core.specs.Prelude.{◌≡◌, ◌+◌, ◌/◌, ◌<◌, ◌≤◌, length, if◌then◌else◌};
+ghost use Rattle.std.specs.Prelude.{◌≡◌, ◌+◌, ◌/◌, ◌<◌, ◌≤◌, length, if◌then◌else◌};
 ghost use Rattle.line.specs.Card.{either};
 ghost use Rattle.line.specs.Flow.{only};
 ghost use Rattle.book.specs.First.{lowest};

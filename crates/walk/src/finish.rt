@@ -1,5 +1,5 @@
 // What the call answers and writes once the walk has ended.
-ghost use Rattle.core.specs.Prelude.{◌≡◌, ◌≤◌};
+ghost use Rattle.std.specs.Prelude.{◌≡◌, ◌≤◌};
 ghost use Rattle.line.specs.Card.{whole_area};
 ghost use Rattle.book.specs.Format.{modules, area};
 ghost use Rattle.book.specs.Cards.{card_of};

@@ -1,7 +1,7 @@
 // The balancing walk.
 #![tactic(auto)]
 
-ghost use Rattle.core.specs.Prelude.{◌≡◌, ◌≤◌, length};
+ghost use Rattle.std.specs.Prelude.{◌≡◌, ◌≤◌, length};
 ghost use Rattle.book.specs.Sound.{Sound};
 ghost use Rattle.side.specs.Given.{Lent};
 ghost use Rattle.walk.specs.Call.{room_for, too_short, Written, Comes, checked_sound, Walked};
@@ -17,7 +17,7 @@ mod rows;
 mod run;
 
 // The answer of the walk's call.
-#[derive(Drop)]
+#[derive(Clone, Copy)]
 pub enum Answered {
     Done { price: u32, rounds: usize },
     Stuck(usize),
@@ -28,7 +28,7 @@ pub enum Answered {
 const SIDE: usize = (book::Book::MODULES + 7) / 8;
 
 // A row that a round writes: price, area of X, module taken, way.
-#[derive(Drop)]
+#[derive(Clone, Copy)]
 pub struct Row {
     pub price: u32,
     pub area: u32,
@@ -37,7 +37,7 @@ pub struct Row {
 }
 
 // The walk as it stands: the marks, and the near side and the row of the last round.
-#[derive(Drop)]
+#[derive(Clone, Copy)]
 pub struct Standing {
     marks: [u8; book::Book::MODULES],
     x: [u8; SIDE],

@@ -1,5 +1,5 @@
 // The near side for the modules now pinned.
-ghost use Rattle.core.specs.Prelude.{◌≡◌, ◌≤◌, length};
+ghost use Rattle.std.specs.Prelude.{◌≡◌, ◌≤◌, length};
 ghost use Rattle.line.specs.Flow.{Fair};
 ghost use Rattle.side.specs.Sides.{bytes_for};
 ghost use Rattle.flow.specs.Cards.{card_of};
@@ -57,7 +57,7 @@ pub fn near(
     requires { Ground first.now mods.now weight.now nets.now at.now pins.now mark.now × Fair (card_of first.now mods.now weight.now mark.now) flow.old × (length flow.old ≡ length mods.now) × (bytes_for (length mark.now) ≤ length x.old) }
     ensures { NearRow (card_of first.now mods.now weight.now mark.now) x.old x.new }
 {
-    split::core::lift(first, mods, weight, nets, at, pins, mark, &mut *flow);
+    split::engine::lift(first, mods, weight, nets, at, pins, mark, &mut *flow);
     let m = mark.len();
     let n = weight.len();
     let mut queue: [u16; book::Book::MODULES] = [0; book::Book::MODULES];

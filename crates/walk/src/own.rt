@@ -1,5 +1,5 @@
 // The walk's slices, loaded from the book into room of its own.
-ghost use Rattle.core.specs.Prelude.{◌≡◌, ◌≤◌, length};
+ghost use Rattle.std.specs.Prelude.{◌≡◌, ◌≤◌, length};
 ghost use Rattle.book.specs.Sound.{Sound};
 ghost use Rattle.walk.specs.Call.{room_for};
 ghost use Rattle.walk.specs.Work.{Rooms, Loaded};

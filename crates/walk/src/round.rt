@@ -1,5 +1,5 @@
 // One round of the walk.
-ghost use Rattle.core.specs.Prelude.{◌≡◌, ◌≤◌, length};
+ghost use Rattle.std.specs.Prelude.{◌≡◌, ◌≤◌, length};
 ghost use Rattle.line.specs.Flow.{Fair};
 ghost use Rattle.book.specs.Format.{modules};
 ghost use Rattle.book.specs.Cards as card;

@@ -1,5 +1,5 @@
 // The rows of the walk and its side, written into lent bytes.
-ghost use Rattle.core.specs.Prelude.{◌≡◌, ◌+◌, ◌<◌, ◌≤◌, length, take};
+ghost use Rattle.std.specs.Prelude.{◌≡◌, ◌+◌, ◌<◌, ◌≤◌, length, take};
 ghost use Rattle.walk.specs.Call.{little_endian, row_bytes, over};
 ghost use Rattle.walk.specs.Parts.{over_at};
 

@@ -1,5 +1,5 @@
 // The rounds of the walk, one after the other.
-ghost use Rattle.core.specs.Prelude.{◌≡◌, ◌+◌, ◌≤◌, length};
+ghost use Rattle.std.specs.Prelude.{◌≡◌, ◌+◌, ◌≤◌, length};
 ghost use Rattle.line.specs.Flow.{Fair};
 ghost use Rattle.book.specs.Checks.{most_modules};
 ghost use Rattle.book.specs.Format.{modules, mark};

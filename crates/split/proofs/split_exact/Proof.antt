@@ -3,7 +3,7 @@ use Rattle.book.specs.Format.{modules, nets, pins}
 use Rattle.book.specs.Checks.{most_modules, most_nets, most_pins}
 use lib.Seq.{length-take-le}
 use mathlib.Core.Path.{sym, ap, ◌∙◌}
-use Rattle.core.specs.Prelude.{ℕ, ◌+◌, ◌≤◌}
+use Rattle.std.specs.Prelude.{ℕ, ◌+◌, ◌≤◌}
 use borrow.Author.Rules.{rules}
 use native.Mathlib.Omega.{arith}
 use Rattle.split.proofs.split_exact.Statement.{statement}

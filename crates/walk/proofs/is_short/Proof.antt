@@ -1,7 +1,7 @@
 -- `walk::is_short` meets its contract: either buffer. Assumes nothing.
 use Rattle.walk.specs.Call.{too_short}
 use Rattle.side.specs.Given.{is_short}
-use Rattle.core.specs.Prelude.{ℕ, ◌+◌, ◌*◌, Bool, ◌||◌, ltb, length}
+use Rattle.std.specs.Prelude.{ℕ, ◌+◌, ◌*◌, Bool, ◌||◌, ltb, length}
 use mathlib.Core.Path.{ap₂}
 use borrow.Author.Rules.{rules}
 use Rattle.walk.proofs.is_short.Statement.{statement}

@@ -1,5 +1,5 @@
 use Rattle.side.specs.Sides.{with_bit}
-use Rattle.core.specs.Prelude.{ℕ, List}
+use Rattle.std.specs.Prelude.{ℕ, List}
 use mathlib.Core.Path.{ap, ◌∙◌}
 use borrow.Author.Rules.{rules}
 use Rattle.split.proofs.bits.write_module.Statement.{statement}

@@ -1,4 +1,4 @@
-use Rattle.core.specs.Prelude.{◌≡◌, ℕ, ◌+◌, ◌-◌, ◌≤◌, List, length}
+use Rattle.std.specs.Prelude.{◌≡◌, ℕ, ◌+◌, ◌-◌, ◌≤◌, List, length}
 use mathlib.Core.Path.{sym, subst}
 use Rattle.split.proofs.Rows.{written_start, written_next}
 use Rattle.split.specs.Writes.{Written}

@@ -3,7 +3,7 @@ use Rattle.split.proofs.Fills.{fill_start, fill-next, filled}
 use Rattle.book.proofs.CardLaws.{first_pin-suc}
 use Rattle.book.specs.Format.{first_pin, nets}
 use Rattle.book.specs.Listed.{listed}
-use Rattle.core.specs.Prelude.{◌≡◌, ◌+◌, ◌-◌, ◌≤◌, length, take, set}
+use Rattle.std.specs.Prelude.{◌≡◌, ◌+◌, ◌-◌, ◌≤◌, length, take, set}
 use lib.ListN.{length-set}
 use mathlib.Core.Path.{ap, ◌∙◌}
 use borrow.Author.Rules.{rules}

@@ -1,7 +1,7 @@
 use Rattle.split.proofs.Fills.{fill_start, fill-next, filled}
 use Rattle.book.specs.Format.{mark}
 use Rattle.book.specs.Listed.{listed}
-use Rattle.core.specs.Prelude.{◌≡◌, ◌-◌, ◌≤◌, length, take}
+use Rattle.std.specs.Prelude.{◌≡◌, ◌-◌, ◌≤◌, length, take}
 use lib.ListN.{length-set}
 use mathlib.Core.Path.{◌∙◌}
 use borrow.Author.Rules.{rules}

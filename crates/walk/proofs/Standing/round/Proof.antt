@@ -6,7 +6,7 @@ use Rattle.line.specs.Flow.{Fair}
 use Rattle.book.specs.Format.{modules}
 use Rattle.book.specs.Checks.{most_modules}
 use lib.Seq.{length-take-le}
-use Rattle.core.specs.Prelude.{◌≡◌, ℕ, ◌≤◌, length, take}
+use Rattle.std.specs.Prelude.{◌≡◌, ℕ, ◌≤◌, length, take}
 use mathlib.Core.Path.{refl, sym, subst}
 use borrow.Author.Rules.{rules}
 use native.Mathlib.Omega.{arith}

@@ -2,7 +2,7 @@
 use Rattle.walk.specs.Parts.{side_from, marks_of}
 use Rattle.walk.specs.Walk.{free_in}
 use Rattle.side.specs.Sides.{side_of}
-use Rattle.core.specs.Prelude.{length}
+use Rattle.std.specs.Prelude.{length}
 use Rattle.book.specs.declared.Found.{Found}
 use Rattle.book.specs.First.{lowest, or_else}
 use mathlib.Core.Path.{sym, ap, ◌∙◌}

@@ -2,7 +2,7 @@
 use borrow.Author.Tests.{eq-eqb, ne_eqb}
 use Rattle.walk.proofs.Marks.{free_more}
 use Rattle.book.specs.Format.{mark}
-use Rattle.core.specs.Prelude.{true, false}
+use Rattle.std.specs.Prelude.{true, false}
 use mathlib.Core.Path.{refl}
 use borrow.Author.Rules.{rules}
 use native.Mathlib.Omega.{arith}

@@ -1,5 +1,5 @@
 -- `walk::choose::is_free_in` meets its contract: both tests in one. Assumes nothing.
-use Rattle.core.specs.Prelude.{Bool, ◌&&◌}
+use Rattle.std.specs.Prelude.{Bool, ◌&&◌}
 use mathlib.Core.Path.{ap₂}
 use borrow.Author.Rules.{rules}
 use Rattle.walk.proofs.choose.is_free_in.Statement.{statement}

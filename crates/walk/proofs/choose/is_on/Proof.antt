@@ -1,5 +1,5 @@
 -- `walk::choose::is_on` meets its contract: the answer is the bit, or its opposite. Assumes nothing.
-use Rattle.core.specs.Prelude.{not}
+use Rattle.std.specs.Prelude.{not}
 use mathlib.Core.Path.{ap}
 use borrow.Author.Rules.{rules}
 use Rattle.walk.proofs.choose.is_on.Statement.{statement}

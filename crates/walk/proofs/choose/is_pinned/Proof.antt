@@ -1,5 +1,5 @@
 -- `walk::choose::is_pinned` meets its contract: all three tests in one. Assumes nothing.
-use Rattle.core.specs.Prelude.{Bool, ◌&&◌, ◌||◌, eqb, get_or}
+use Rattle.std.specs.Prelude.{Bool, ◌&&◌, ◌||◌, eqb, get_or}
 use mathlib.Core.Path.{ap}
 use borrow.Author.Rules.{rules}
 use Rattle.walk.proofs.choose.is_pinned.Statement.{statement}

@@ -6,7 +6,7 @@ use Rattle.walk.proofs.Marks.{lowest_start}
 use Rattle.book.proofs.Firsts.{lowest-more, lowest-found, lowest-ended}
 use Rattle.book.specs.declared.Found.TheVariants.{Nothing}
 use Rattle.book.specs.First.{lowest}
-use Rattle.core.specs.Prelude.{◌≡◌, ◌-◌, ◌≤◌, length}
+use Rattle.std.specs.Prelude.{◌≡◌, ◌-◌, ◌≤◌, length}
 use mathlib.Core.Path.{sym, ◌∙◌}
 use borrow.Author.Rules.{rules}
 use native.Mathlib.Omega.{arith}

@@ -8,7 +8,7 @@ use Rattle.side.specs.Sides.{side_of}
 use Rattle.book.proofs.CardLaws.{first_pin-suc}
 use Rattle.book.specs.Cards.{nets_of}
 use Rattle.book.specs.Format.{first_pin}
-use Rattle.core.specs.Prelude.{◌≡◌, ℕ, ◌+◌, ◌-◌, ◌≤◌, take}
+use Rattle.std.specs.Prelude.{◌≡◌, ℕ, ◌+◌, ◌-◌, ◌≤◌, take}
 use mathlib.Core.Path.{sym, ap₂, ◌∙◌}
 use borrow.Author.Rules.{rules}
 use native.Mathlib.Omega.{arith}

@@ -4,7 +4,7 @@ use Rattle.walk.specs.Parts.{Adds}
 use Rattle.book.specs.Cards.{pins_of}
 use Rattle.line.specs.Flow.{only}
 use Rattle.line.specs.Card.{touches}
-use Rattle.core.specs.Prelude.{◌-◌, ◌≤◌, take}
+use Rattle.std.specs.Prelude.{◌-◌, ◌≤◌, take}
 use borrow.Author.Rules.{rules}
 use native.Mathlib.Omega.{arith}
 use Rattle.walk.proofs.cut.put_net.Statement.{statement}

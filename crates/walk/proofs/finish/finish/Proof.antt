@@ -1,6 +1,6 @@
 -- `walk::finish::finish` meets its contract: the last way is 0, or it is not. Assumes nothing.
 use Rattle.walk.proofs.Ended.{finish-stops, finish-ends}
-use Rattle.core.specs.Prelude.{◌≡◌, length}
+use Rattle.std.specs.Prelude.{◌≡◌, length}
 use mathlib.Core.Path.{refl}
 use borrow.Author.Rules.{rules}
 use native.Mathlib.Omega.{arith}

@@ -1,5 +1,5 @@
 -- `walk::finish::whole_area` meets its contract: `sum` is the area of the modules below `m`. Assumes nothing.
-use Rattle.core.specs.Prelude.{◌≡◌, ◌-◌, ◌*◌, ◌≤◌, true}
+use Rattle.std.specs.Prelude.{◌≡◌, ◌-◌, ◌*◌, ◌≤◌, true}
 use Rattle.walk.proofs.Ended.{area-none, area-more}
 use Rattle.side.specs.Prices.{most_number}
 use Rattle.book.specs.Format.{modules, area}

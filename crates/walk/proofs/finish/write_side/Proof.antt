@@ -2,7 +2,7 @@
 use Rattle.walk.proofs.Ended.{side-row}
 use Rattle.book.specs.Format.{modules}
 use Rattle.walk.specs.Call.{over}
-use Rattle.core.specs.Prelude.{ℕ, ◌+◌, ◌/◌, List, take}
+use Rattle.std.specs.Prelude.{ℕ, ◌+◌, ◌/◌, List, take}
 use mathlib.Core.Path.{ap, ◌∙◌}
 use borrow.Author.Rules.{rules}
 use native.Mathlib.Omega.{arith}

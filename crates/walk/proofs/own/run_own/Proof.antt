@@ -1,7 +1,7 @@
 -- `walk::own::run_own` meets its contract: each slice is as long as the book asks. Assumes nothing.
 use Rattle.book.specs.Checks.{most_modules, most_nets, most_pins}
 use lib.Seq.{length-take-le}
-use Rattle.core.specs.Prelude.{ℕ, ◌+◌, ◌≤◌}
+use Rattle.std.specs.Prelude.{ℕ, ◌+◌, ◌≤◌}
 use mathlib.Core.Path.{sym, ap, ◌∙◌}
 use borrow.Author.Rules.{rules}
 use native.Mathlib.Omega.{arith}

@@ -2,7 +2,7 @@
 use Rattle.walk.proofs.Steps.{takes-turned, ends_turned, taken-small}
 use Rattle.walk.specs.Parts.{side_from}
 use Rattle.side.specs.Sides.{side_of}
-use Rattle.core.specs.Prelude.{not}
+use Rattle.std.specs.Prelude.{not}
 use mathlib.Core.Path.{refl, sym, ◌∙◌}
 use borrow.Author.Rules.{rules}
 use native.Mathlib.Omega.{arith}

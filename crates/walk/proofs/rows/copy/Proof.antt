@@ -1,5 +1,5 @@
 -- `walk::rows::copy` meets its contract: the bytes before `i` are copied. Assumes nothing.
-use Rattle.core.specs.Prelude.{◌≡◌, ℕ, ◌+◌, ◌-◌, ◌≤◌, List, ◌++◌, length, get_or, take, drop, set}
+use Rattle.std.specs.Prelude.{◌≡◌, ℕ, ◌+◌, ◌-◌, ◌≤◌, List, ◌++◌, length, get_or, take, drop, set}
 use lib.Seq.{paste, paste-zero, length-paste, length-take-le}
 use Rattle.book.proofs.Pasted.{paste_more}
 use Rattle.walk.specs.Call.{over}

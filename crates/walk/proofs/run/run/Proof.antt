@@ -5,7 +5,7 @@ use Rattle.walk.specs.Parts.{marks_of}
 use Rattle.walk.specs.Walk.{free_to}
 use Rattle.flow.proofs.Raised.{zeros-fair}
 use Rattle.book.specs.Format.{modules}
-use Rattle.core.specs.Prelude.{◌≡◌, ℕ, length}
+use Rattle.std.specs.Prelude.{◌≡◌, ℕ, length}
 use mathlib.Core.Path.{refl, sym, ◌∙◌, subst}
 use borrow.Author.Rules.{rules}
 use native.Mathlib.Omega.{arith}

@@ -3,7 +3,7 @@ use Rattle.book.proofs.Elements.{length-listed}
 use Rattle.book.specs.Format.{modules, mark}
 use Rattle.book.specs.Checks.{most_modules}
 use lib.Seq.{length-take-le, take_at}
-use Rattle.core.specs.Prelude.{◌≤◌, length}
+use Rattle.std.specs.Prelude.{◌≤◌, length}
 use mathlib.Core.Path.{refl, sym, ap, ◌∙◌}
 use borrow.Author.Rules.{rules}
 use native.Mathlib.Omega.{arith}

@@ -1,11 +1,11 @@
 use Rattle.book.specs.Checks.{most_modules}
 use lib.Seq.{length-take-le}
-use Rattle.core.specs.Prelude.{◌≡◌, ℕ, ◌+◌, ◌≤◌, length}
+use Rattle.std.specs.Prelude.{◌≡◌, ℕ, ◌+◌, ◌≤◌, length}
 use mathlib.Core.Path.{sym}
 use borrow.Author.Rules.{rules}
 use native.Mathlib.Omega.{arith}
-use Rattle.split.proofs.core.solve.Statement.{statement}
-use Rattle.split.proofs.core.solve.Tie as tie
+use Rattle.split.proofs.engine.solve.Statement.{statement}
+use Rattle.split.proofs.engine.solve.Tie as tie
 
 no_less : (a b : ℕ) → a ≡ b → b ≤ a
 no_less a b e = omega arith

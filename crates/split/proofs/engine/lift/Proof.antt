@@ -1,10 +1,10 @@
--- `split::core::lift` meets its contract: the work is as long as the climb asks. Assumes nothing.
+-- `split::engine::lift` meets its contract: the work is as long as the climb asks. Assumes nothing.
 use lib.Seq.{length-take-le}
 use mathlib.Core.Path.{sym}
 use borrow.Author.Rules.{rules}
 use native.Mathlib.Omega.{arith}
-use Rattle.split.proofs.core.lift.Statement.{statement}
-use Rattle.split.proofs.core.lift.Tie as tie
+use Rattle.split.proofs.engine.lift.Statement.{statement}
+use Rattle.split.proofs.engine.lift.Tie as tie
 
 array-borrow-prefix-how : tie.Need-array-borrow-prefix-how
 array-borrow-prefix-how c = search rules

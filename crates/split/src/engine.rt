@@ -1,5 +1,5 @@
 // The engine at work on a card's slices. What it works in is its own.
-ghost use Rattle.core.specs.Prelude.{◌≡◌, ℕ, ◌<◌, ◌≤◌, length};
+ghost use Rattle.std.specs.Prelude.{◌≡◌, ℕ, ◌<◌, ◌≤◌, length};
 ghost use Rattle.line.specs.Flow.{Fair};
 ghost use Rattle.flow.specs.Cards.{card_of, Laid};
 ghost use Rattle.flow.specs.Search.{Tables};

@@ -3,8 +3,8 @@ use mathlib.Core.Path.{sym, ◌∙◌}
 use lib.Seq.{length-take-le}
 use borrow.Author.Rules.{rules}
 use native.Mathlib.Omega.{arith}
-use Rattle.split.proofs.core.solve_on.Statement.{statement}
-use Rattle.split.proofs.core.solve_on.Tie as tie
+use Rattle.split.proofs.engine.solve_on.Statement.{statement}
+use Rattle.split.proofs.engine.solve_on.Tie as tie
 
 lift-requires : tie.Need-lift-requires
 lift-requires c κs = let p = c.before.before.before.before.before.before.before.before.before.before.requires in (p.0, p.1, p.2.fair, p.2.long)

@@ -3,8 +3,8 @@ use mathlib.Core.Path.{◌∙◌}
 use Rattle.flow.proofs.Raised.{raised-greatest, engine-kept}
 use borrow.Author.Rules.{rules}
 use native.Mathlib.Omega.{arith}
-use Rattle.split.proofs.core.solve_in.Statement.{statement}
-use Rattle.split.proofs.core.solve_in.Tie as tie
+use Rattle.split.proofs.engine.solve_in.Statement.{statement}
+use Rattle.split.proofs.engine.solve_in.Tie as tie
 
 raise-requires : tie.Need-raise-requires
 raise-requires c κs = search rules

@@ -1,6 +1,6 @@
 use borrow.Author.Rules.{rules}
-use Rattle.split.proofs.core.solve_tabled.Statement.{statement}
-use Rattle.split.proofs.core.solve_tabled.Tie as tie
+use Rattle.split.proofs.engine.solve_tabled.Statement.{statement}
+use Rattle.split.proofs.engine.solve_tabled.Tie as tie
 
 build-requires : tie.Need-build-requires
 build-requires c κs = search rules
