@@ -8,7 +8,7 @@ use native.Mathlib.Omega.{arith}
 use lib.ListN.{length, get_or}
 use lib.Dec.{eqb}
 use borrow.Author.Tests.{eqb-true, eqb-false, not-true}
-use Rattle.flow.specs.Search.{rank, left, kind, entered, Pin}
+use Rattle.flow.specs.Search.{Pin}
 use Rattle.flow.specs.Cards.{card_of}
 use Rattle.flow.proofs.VisitLaws.{Read, read}
 use Rattle.flow.proofs.CardLaws.{Made, card-made, grid-of, run-net}

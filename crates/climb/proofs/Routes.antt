@@ -56,8 +56,8 @@ module _ (fs ms ws nt at pl mk : List ℕ) (lay : Lay fs ms ws nt at pl mk) (hea
   }
 
   -- the module of a pin, by the numbers of the card
-  pin_of : (e a : ℕ) → a < length ms → get_or nt a 0 ≡ e → (a - start c.nets e < length (net_at c.nets e).pins) × (pin_of c e (a - start c.nets e) ≡ get_or ms a 0)
-  pin_of e a l q =
+  pin-module : (e a : ℕ) → a < length ms → get_or nt a 0 ≡ e → (a - start c.nets e < length (net_at c.nets e).pins) × (pin_of c e (a - start c.nets e) ≡ get_or ms a 0)
+  pin-module e a l q =
       let s : start c.nets (get_or nt a 0) ≡ start c.nets e = ap (start c.nets) q in
       let k : length (net_at c.nets (get_or nt a 0)).pins ≡ length (net_at c.nets e).pins = ap (λ (n : ℕ). length (net_at c.nets n).pins) q in
       let low = grid.low a l in
@@ -71,8 +71,8 @@ module _ (fs ms ws nt at pl mk : List ℕ) (lay : Lay fs ms ws nt at pl mk) (hea
       let x = get_or w m 0 in
       let e = get_or nt (left x) 0 in
       let k = t.trail.step m i n in
-      let a = pin_of e (left x) k.in_left refl in
-      let b = pin_of e (entered x) k.in-entered k.same in
+      let a = pin-module e (left x) k.in_left refl in
+      let b = pin-module e (entered x) k.in-entered k.same in
       let to : pin_of c e (entered x - start c.nets e) ≡ m = b.1 ∙ t.to m i n in record {
         sound = record {
           net = grid.net (left x) k.in_left;

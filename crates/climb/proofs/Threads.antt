@@ -313,8 +313,8 @@ module _ (ms nt mk w sn : List ℕ) (N u : ℕ) (t : Thread ms nt mk w sn N u) (
       go (no d) = omega (arith, t.last m i q, t.next u t.tip n)
 
   -- if no mark but that of u is lost
-  left_by : (sn' : List ℕ) → ((e : ℕ) → get_or sn e 0 ≢ suc u → get_or sn' e 0 ≡ get_or sn e 0) → Thread ms nt mk w⁻ sn' N p
-  left_by sn' keeps = record {
+  thread-left : (sn' : List ℕ) → ((e : ℕ) → get_or sn e 0 ≢ suc u → get_or sn' e 0 ≡ get_or sn e 0) → Thread ms nt mk w⁻ sn' N p
+  thread-left sn' keeps = record {
     trail = record {
       lenw = length-set w u 0 ∙ t.trail.lenw;
       nts = t.trail.nts;
@@ -339,11 +339,11 @@ module _ (ms nt mk w sn : List ℕ) (N u : ℕ) (t : Thread ms nt mk w sn N u) (
   -- by the net's room, whose mark is taken away
   pub thread-leave-room : {p' e : ℕ} {sn' : List ℕ} → p' ≡ get_or ms (left (get_or w u 0)) 0 → e ≡ get_or nt (left (get_or w u 0)) 0 → sn' ≡ set sn e 0 → kind (get_or w u 0) ≡ 0 → Thread ms nt mk (set w u 0) sn' N p'
   thread-leave-room ep en es k = rw (es, en, ep)
-      (left_by _ (λ i q. get_or-set_other sn (get_or nt (left (get_or w u 0)) 0) i 0 0 (λ h. q (ap (λ (j : ℕ). get_or sn j 0) h ∙ t.opens u t.tip n k))))
+      (thread-left _ (λ i q. get_or-set_other sn (get_or nt (left (get_or w u 0)) 0) i 0 0 (λ h. q (ap (λ (j : ℕ). get_or sn j 0) h ∙ t.opens u t.tip n k))))
 
   -- by what a pin takes or sends
   pub thread-leave-undo : {p' : ℕ} {sn' : List ℕ} → p' ≡ get_or ms (left (get_or w u 0)) 0 → sn' ≡ sn → Thread ms nt mk (set w u 0) sn' N p'
-  thread-leave-undo ep es = rw (es, ep) (left_by sn (λ _ _. refl))
+  thread-leave-undo ep es = rw (es, ep) (thread-left sn (λ _ _. refl))
 
   pub leave-lower : {p' : ℕ} → p' ≡ get_or ms (left (get_or w u 0)) 0 → rank (get_or (set w u 0) p' 0) < rank (get_or w u 0)
   leave-lower ep = rw ep (omega (arith, ap rank (kept⁻ p before), trod.lower))

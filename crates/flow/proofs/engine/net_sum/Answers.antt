@@ -3,6 +3,7 @@ use mathlib.Core.Path.{sym, ap, ◌∙◌}
 use Prim.Native.Nat.{ℕ, ◌-◌, ◌+◌}
 use native.Mathlib.Nat.{le_antisymm}
 use native.Mathlib.Omega.{arith}
+use borrow.Author.Rules.{rules}
 use lib.IntN.{pos}
 use lib.ListN.{get_or, take, drop}
 use Rattle.line.specs.Flow.{sent, total_sent}
@@ -19,13 +20,13 @@ overflow_add-s c =
     let pre = c.requires in
     let loop = c.loop-i in
     let loop-test = c.loop-i-test in
-    record { fits = omega (arith, (c.sent_by-s.ensures ∙ ap sent (read_back (get_or args.flow.now loop.i (pos 0)) c.sent_by-arg-1.given)), sum_more args.flow.now args.lo loop.i loop.invariant.0 (omega (arith, loop-test.true, pre.1)), loop.invariant.2, pre.2, sum_below args.flow.now args.lo (loop.i + 1) args.hi (omega (arith, loop-test.true))) }
+    record { fits = omega (arith, (c.sent_by-s.ensures ∙ ap sent (read_back (get_or args.flow.now loop.i (pos 0)) (search rules))), sum_more args.flow.now args.lo loop.i loop.invariant.0 (omega (arith, loop-test.true, pre.1)), loop.invariant.2, pre.2, sum_below args.flow.now args.lo (loop.i + 1) args.hi (omega (arith, loop-test.true))) }
 
 pub loop-i-preserved : goal.loop-i-preserved
 loop-i-preserved c =
     let args = c.args in
     let loop = c.loop-i in
-    (omega arith, omega arith, omega (arith, (c.sent_by-s.ensures ∙ ap sent (read_back (get_or args.flow.now loop.i (pos 0)) c.sent_by-arg-1.given)), sum_more args.flow.now args.lo loop.i loop.invariant.0 (omega (arith, c.loop-i-test.true, c.requires.1)), loop.invariant.2))
+    (omega arith, omega arith, omega (arith, (c.sent_by-s.ensures ∙ ap sent (read_back (get_or args.flow.now loop.i (pos 0)) (search rules))), sum_more args.flow.now args.lo loop.i loop.invariant.0 (omega (arith, c.loop-i-test.true, c.requires.1)), loop.invariant.2))
 
 pub returns : goal.returns
 returns c =

@@ -2,6 +2,7 @@
 use mathlib.Core.Path.{sym, ap, ◌∙◌, subst}
 use Prim.Native.Nat.{ℕ}
 use native.Mathlib.Omega.{arith}
+use borrow.Author.Rules.{rules}
 use lib.IntN.{pos, neg_ℤ, ◌+ℤ◌}
 use lib.ListN.{get_or, length-set}
 use mir.Val.{to_z, of_z}
@@ -33,7 +34,7 @@ plus-more-requires c =
     let args = c.args in
     let pre = c.requires in
     let left-pin = c.left_pin-a in
-    (small-back (get_or args.flow.now left-pin.result (pos 0)) c.plus-arg-1.given (subst (λ (i : ℕ). Small (get_or args.flow.now i (pos 0))) (sym left-pin.ensures) pre.small-a), pre.amount)
+    (small-back (get_or args.flow.now left-pin.result (pos 0)) (search rules) (subst (λ (i : ℕ). Small (get_or args.flow.now i (pos 0))) (sym left-pin.ensures) pre.small-a), pre.amount)
 
 pub offset_bounds-flow-b : goal.offset_bounds-flow-b
 offset_bounds-flow-b c =
@@ -49,7 +50,7 @@ minus-less-requires c =
     let args = c.args in
     let pre = c.requires in
     let entered-pin = c.entered_pin-b in
-    (small-back (get_or args.flow.now entered-pin.result (pos 0)) c.minus-arg-1.given (subst (λ (i : ℕ). Small (get_or args.flow.now i (pos 0))) (sym entered-pin.ensures) pre.small_b), pre.amount)
+    (small-back (get_or args.flow.now entered-pin.result (pos 0)) (search rules) (subst (λ (i : ℕ). Small (get_or args.flow.now i (pos 0))) (sym entered-pin.ensures) pre.small_b), pre.amount)
 
 pub offset_bounds-flow-a-2 : goal.offset_bounds-flow-a-2
 offset_bounds-flow-a-2 c =
@@ -81,7 +82,7 @@ overflow_add-before c =
     let pre = c.requires in
     let left-pin = c.left_pin-a in
     let entered-pin = c.entered_pin-b in
-    record { fits = omega (arith, (c.sent_by.ensures ∙ ap sent (read_back (get_or args.flow.now left-pin.result (pos 0)) c.sent_by-arg-1.given) ∙ (ap (λ (i : ℕ). sent (get_or args.flow.now i (pos 0))) left-pin.ensures)), (c.sent_by-2.ensures ∙ ap sent (read_back (get_or args.flow.now entered-pin.result (pos 0)) c.sent_by-arg-2-1.given) ∙ (ap (λ (i : ℕ). sent (get_or args.flow.now i (pos 0))) entered-pin.ensures)), pre.small-a.sent, pre.small_b.sent) }
+    record { fits = omega (arith, (c.sent_by.ensures ∙ ap sent (read_back (get_or args.flow.now left-pin.result (pos 0)) (search rules)) ∙ (ap (λ (i : ℕ). sent (get_or args.flow.now i (pos 0))) left-pin.ensures)), (c.sent_by-2.ensures ∙ ap sent (read_back (get_or args.flow.now entered-pin.result (pos 0)) (search rules)) ∙ (ap (λ (i : ℕ). sent (get_or args.flow.now i (pos 0))) entered-pin.ensures)), pre.small-a.sent, pre.small_b.sent) }
 
 pub overflow_add-after : goal.overflow_add-after
 overflow_add-after c =
@@ -90,13 +91,10 @@ overflow_add-after c =
     let left-pin = c.left_pin-a in
     let entered-pin = c.entered_pin-b in
     let wide = c.wide-n in
-    let plus-arg = c.plus-arg-1 in
     let plus = c.plus-more in
-    let minus-arg = c.minus-arg-1 in
     let minus = c.minus-less in
-    let sent-by-arg = c.sent_by-arg-1 in
     let sent-by = c.sent_by in
-    record { fits = omega (arith, (sent-by.ensures ∙ ap sent (read_back (get_or args.flow.now left-pin.result (pos 0)) sent-by-arg.given) ∙ (ap (λ (i : ℕ). sent (get_or args.flow.now i (pos 0))) left-pin.ensures)), (c.sent_by-2.ensures ∙ ap sent (read_back (get_or args.flow.now entered-pin.result (pos 0)) c.sent_by-arg-2-1.given) ∙ (ap (λ (i : ℕ). sent (get_or args.flow.now i (pos 0))) entered-pin.ensures)), (c.sent_by-3.ensures ∙ ap sent (plus-back (get_or args.flow.now left-pin.result (pos 0)) args.d plus-arg.given (subst (λ (i : ℕ). Small (get_or args.flow.now i (pos 0))) (sym left-pin.ensures) pre.small-a) pre.amount plus.ensures) ∙ ap (λ (i : ℕ). sent (get_or args.flow.now i (pos 0) +ℤ pos args.d)) left-pin.ensures), (c.sent_by-4.ensures ∙ ap sent (minus-back (get_or args.flow.now entered-pin.result (pos 0)) args.d minus-arg.given (subst (λ (i : ℕ). Small (get_or args.flow.now i (pos 0))) (sym entered-pin.ensures) pre.small_b) pre.amount minus.ensures) ∙ ap (λ (i : ℕ). sent (get_or args.flow.now i (pos 0) +ℤ neg_ℤ (pos args.d))) entered-pin.ensures), more-sent (get_or args.flow.now (left args.x) (pos 0)) args.d, less-sent (get_or args.flow.now (entered args.x) (pos 0)) args.d, pre.small-a.sent, pre.small_b.sent, pre.amount, pre.sum, pre.held, ap (λ (k : ℕ). get_or args.sums.now k 0) ((wide.ensures ∙ ap (λ (k : ℕ). get_or args.nets.now k 0) left-pin.ensures))) }
+    record { fits = omega (arith, (sent-by.ensures ∙ ap sent (read_back (get_or args.flow.now left-pin.result (pos 0)) (search rules)) ∙ (ap (λ (i : ℕ). sent (get_or args.flow.now i (pos 0))) left-pin.ensures)), (c.sent_by-2.ensures ∙ ap sent (read_back (get_or args.flow.now entered-pin.result (pos 0)) (search rules)) ∙ (ap (λ (i : ℕ). sent (get_or args.flow.now i (pos 0))) entered-pin.ensures)), (c.sent_by-3.ensures ∙ ap sent (plus-back (get_or args.flow.now left-pin.result (pos 0)) args.d (search rules) (subst (λ (i : ℕ). Small (get_or args.flow.now i (pos 0))) (sym left-pin.ensures) pre.small-a) pre.amount plus.ensures) ∙ ap (λ (i : ℕ). sent (get_or args.flow.now i (pos 0) +ℤ pos args.d)) left-pin.ensures), (c.sent_by-4.ensures ∙ ap sent (minus-back (get_or args.flow.now entered-pin.result (pos 0)) args.d (search rules) (subst (λ (i : ℕ). Small (get_or args.flow.now i (pos 0))) (sym entered-pin.ensures) pre.small_b) pre.amount minus.ensures) ∙ ap (λ (i : ℕ). sent (get_or args.flow.now i (pos 0) +ℤ neg_ℤ (pos args.d))) entered-pin.ensures), more-sent (get_or args.flow.now (left args.x) (pos 0)) args.d, less-sent (get_or args.flow.now (entered args.x) (pos 0)) args.d, pre.small-a.sent, pre.small_b.sent, pre.amount, pre.sum, pre.held, ap (λ (k : ℕ). get_or args.sums.now k 0) ((wide.ensures ∙ ap (λ (k : ℕ). get_or args.nets.now k 0) left-pin.ensures))) }
 
 pub offset_bounds-sums-n : goal.offset_bounds-sums-n
 offset_bounds-sums-n c =
@@ -122,14 +120,10 @@ overflow_add-sums c =
     let left-pin = c.left_pin-a in
     let entered-pin = c.entered_pin-b in
     let wide = c.wide-n in
-    let plus-arg = c.plus-arg-1 in
     let plus = c.plus-more in
-    let minus-arg = c.minus-arg-1 in
     let minus = c.minus-less in
-    let sent-by-arg = c.sent_by-arg-1 in
     let sent-by = c.sent_by in
-    let sent-by-arg2 = c.sent_by-arg-2-1 in
-    record { fits = omega (arith, (sent-by.ensures ∙ ap sent (read_back (get_or args.flow.now left-pin.result (pos 0)) sent-by-arg.given) ∙ (ap (λ (i : ℕ). sent (get_or args.flow.now i (pos 0))) left-pin.ensures)), (c.sent_by-2.ensures ∙ ap sent (read_back (get_or args.flow.now entered-pin.result (pos 0)) sent-by-arg2.given) ∙ (ap (λ (i : ℕ). sent (get_or args.flow.now i (pos 0))) entered-pin.ensures)), (c.sent_by-3.ensures ∙ ap sent (plus-back (get_or args.flow.now left-pin.result (pos 0)) args.d plus-arg.given (subst (λ (i : ℕ). Small (get_or args.flow.now i (pos 0))) (sym left-pin.ensures) pre.small-a) pre.amount plus.ensures) ∙ ap (λ (i : ℕ). sent (get_or args.flow.now i (pos 0) +ℤ pos args.d)) left-pin.ensures), (c.sent_by-4.ensures ∙ ap sent (minus-back (get_or args.flow.now entered-pin.result (pos 0)) args.d minus-arg.given (subst (λ (i : ℕ). Small (get_or args.flow.now i (pos 0))) (sym entered-pin.ensures) pre.small_b) pre.amount minus.ensures) ∙ ap (λ (i : ℕ). sent (get_or args.flow.now i (pos 0) +ℤ neg_ℤ (pos args.d))) entered-pin.ensures), more-sent (get_or args.flow.now (left args.x) (pos 0)) args.d, less-sent (get_or args.flow.now (entered args.x) (pos 0)) args.d, pre.small-a.sent, pre.small_b.sent, pre.amount, pre.sum, pre.held, ap (λ (k : ℕ). get_or args.sums.now k 0) ((wide.ensures ∙ ap (λ (k : ℕ). get_or args.nets.now k 0) left-pin.ensures))) }
+    record { fits = omega (arith, (sent-by.ensures ∙ ap sent (read_back (get_or args.flow.now left-pin.result (pos 0)) (search rules)) ∙ (ap (λ (i : ℕ). sent (get_or args.flow.now i (pos 0))) left-pin.ensures)), (c.sent_by-2.ensures ∙ ap sent (read_back (get_or args.flow.now entered-pin.result (pos 0)) (search rules)) ∙ (ap (λ (i : ℕ). sent (get_or args.flow.now i (pos 0))) entered-pin.ensures)), (c.sent_by-3.ensures ∙ ap sent (plus-back (get_or args.flow.now left-pin.result (pos 0)) args.d (search rules) (subst (λ (i : ℕ). Small (get_or args.flow.now i (pos 0))) (sym left-pin.ensures) pre.small-a) pre.amount plus.ensures) ∙ ap (λ (i : ℕ). sent (get_or args.flow.now i (pos 0) +ℤ pos args.d)) left-pin.ensures), (c.sent_by-4.ensures ∙ ap sent (minus-back (get_or args.flow.now entered-pin.result (pos 0)) args.d (search rules) (subst (λ (i : ℕ). Small (get_or args.flow.now i (pos 0))) (sym entered-pin.ensures) pre.small_b) pre.amount minus.ensures) ∙ ap (λ (i : ℕ). sent (get_or args.flow.now i (pos 0) +ℤ neg_ℤ (pos args.d))) entered-pin.ensures), more-sent (get_or args.flow.now (left args.x) (pos 0)) args.d, less-sent (get_or args.flow.now (entered args.x) (pos 0)) args.d, pre.small-a.sent, pre.small_b.sent, pre.amount, pre.sum, pre.held, ap (λ (k : ℕ). get_or args.sums.now k 0) ((wide.ensures ∙ ap (λ (k : ℕ). get_or args.nets.now k 0) left-pin.ensures))) }
 
 pub overflow_sub-sums : goal.overflow_sub-sums
 overflow_sub-sums c =
@@ -138,14 +132,10 @@ overflow_sub-sums c =
     let left-pin = c.left_pin-a in
     let entered-pin = c.entered_pin-b in
     let wide = c.wide-n in
-    let plus-arg = c.plus-arg-1 in
     let plus = c.plus-more in
-    let minus-arg = c.minus-arg-1 in
     let minus = c.minus-less in
-    let sent-by-arg = c.sent_by-arg-1 in
     let sent-by = c.sent_by in
-    let sent-by-arg2 = c.sent_by-arg-2-1 in
-    omega (arith, (sent-by.ensures ∙ ap sent (read_back (get_or args.flow.now left-pin.result (pos 0)) sent-by-arg.given) ∙ (ap (λ (i : ℕ). sent (get_or args.flow.now i (pos 0))) left-pin.ensures)), (c.sent_by-2.ensures ∙ ap sent (read_back (get_or args.flow.now entered-pin.result (pos 0)) sent-by-arg2.given) ∙ (ap (λ (i : ℕ). sent (get_or args.flow.now i (pos 0))) entered-pin.ensures)), (c.sent_by-3.ensures ∙ ap sent (plus-back (get_or args.flow.now left-pin.result (pos 0)) args.d plus-arg.given (subst (λ (i : ℕ). Small (get_or args.flow.now i (pos 0))) (sym left-pin.ensures) pre.small-a) pre.amount plus.ensures) ∙ ap (λ (i : ℕ). sent (get_or args.flow.now i (pos 0) +ℤ pos args.d)) left-pin.ensures), (c.sent_by-4.ensures ∙ ap sent (minus-back (get_or args.flow.now entered-pin.result (pos 0)) args.d minus-arg.given (subst (λ (i : ℕ). Small (get_or args.flow.now i (pos 0))) (sym entered-pin.ensures) pre.small_b) pre.amount minus.ensures) ∙ ap (λ (i : ℕ). sent (get_or args.flow.now i (pos 0) +ℤ neg_ℤ (pos args.d))) entered-pin.ensures), more-sent (get_or args.flow.now (left args.x) (pos 0)) args.d, less-sent (get_or args.flow.now (entered args.x) (pos 0)) args.d, pre.small-a.sent, pre.small_b.sent, pre.amount, pre.sum, pre.held, ap (λ (k : ℕ). get_or args.sums.now k 0) ((wide.ensures ∙ ap (λ (k : ℕ). get_or args.nets.now k 0) left-pin.ensures)))
+    omega (arith, (sent-by.ensures ∙ ap sent (read_back (get_or args.flow.now left-pin.result (pos 0)) (search rules)) ∙ (ap (λ (i : ℕ). sent (get_or args.flow.now i (pos 0))) left-pin.ensures)), (c.sent_by-2.ensures ∙ ap sent (read_back (get_or args.flow.now entered-pin.result (pos 0)) (search rules)) ∙ (ap (λ (i : ℕ). sent (get_or args.flow.now i (pos 0))) entered-pin.ensures)), (c.sent_by-3.ensures ∙ ap sent (plus-back (get_or args.flow.now left-pin.result (pos 0)) args.d (search rules) (subst (λ (i : ℕ). Small (get_or args.flow.now i (pos 0))) (sym left-pin.ensures) pre.small-a) pre.amount plus.ensures) ∙ ap (λ (i : ℕ). sent (get_or args.flow.now i (pos 0) +ℤ pos args.d)) left-pin.ensures), (c.sent_by-4.ensures ∙ ap sent (minus-back (get_or args.flow.now entered-pin.result (pos 0)) args.d (search rules) (subst (λ (i : ℕ). Small (get_or args.flow.now i (pos 0))) (sym entered-pin.ensures) pre.small_b) pre.amount minus.ensures) ∙ ap (λ (i : ℕ). sent (get_or args.flow.now i (pos 0) +ℤ neg_ℤ (pos args.d))) entered-pin.ensures), more-sent (get_or args.flow.now (left args.x) (pos 0)) args.d, less-sent (get_or args.flow.now (entered args.x) (pos 0)) args.d, pre.small-a.sent, pre.small_b.sent, pre.amount, pre.sum, pre.held, ap (λ (k : ℕ). get_or args.sums.now k 0) ((wide.ensures ∙ ap (λ (k : ℕ). get_or args.nets.now k 0) left-pin.ensures)))
 
 pub offset_bounds-sums-n-2 : goal.offset_bounds-sums-n-2
 offset_bounds-sums-n-2 c =
@@ -201,11 +191,7 @@ returns c =
     let left-pin = c.left_pin-a in
     let entered-pin = c.entered_pin-b in
     let wide = c.wide-n in
-    let plus-arg = c.plus-arg-1 in
     let plus = c.plus-more in
-    let minus-arg = c.minus-arg-1 in
     let minus = c.minus-less in
-    let sent-by-arg = c.sent_by-arg-1 in
     let sent-by = c.sent_by in
-    let sent-by-arg2 = c.sent_by-arg-2-1 in
-    (push-code args.flow.now (left args.x) (entered args.x) args.d left-pin.ensures entered-pin.ensures pre.apart (plus-back (get_or args.flow.now left-pin.result (pos 0)) args.d plus-arg.given (subst (λ (i : ℕ). Small (get_or args.flow.now i (pos 0))) (sym left-pin.ensures) pre.small-a) pre.amount plus.ensures) (minus-back (get_or args.flow.now entered-pin.result (pos 0)) args.d minus-arg.given (subst (λ (i : ℕ). Small (get_or args.flow.now i (pos 0))) (sym entered-pin.ensures) pre.small_b) pre.amount minus.ensures), sums-code args.sums.now ((wide.ensures ∙ ap (λ (k : ℕ). get_or args.nets.now k 0) left-pin.ensures)) (omega (arith, (sent-by.ensures ∙ ap sent (read_back (get_or args.flow.now left-pin.result (pos 0)) sent-by-arg.given) ∙ (ap (λ (i : ℕ). sent (get_or args.flow.now i (pos 0))) left-pin.ensures)), (c.sent_by-2.ensures ∙ ap sent (read_back (get_or args.flow.now entered-pin.result (pos 0)) sent-by-arg2.given) ∙ (ap (λ (i : ℕ). sent (get_or args.flow.now i (pos 0))) entered-pin.ensures)), (c.sent_by-3.ensures ∙ ap sent (plus-back (get_or args.flow.now left-pin.result (pos 0)) args.d plus-arg.given (subst (λ (i : ℕ). Small (get_or args.flow.now i (pos 0))) (sym left-pin.ensures) pre.small-a) pre.amount plus.ensures) ∙ ap (λ (i : ℕ). sent (get_or args.flow.now i (pos 0) +ℤ pos args.d)) left-pin.ensures), (c.sent_by-4.ensures ∙ ap sent (minus-back (get_or args.flow.now entered-pin.result (pos 0)) args.d minus-arg.given (subst (λ (i : ℕ). Small (get_or args.flow.now i (pos 0))) (sym entered-pin.ensures) pre.small_b) pre.amount minus.ensures) ∙ ap (λ (i : ℕ). sent (get_or args.flow.now i (pos 0) +ℤ neg_ℤ (pos args.d))) entered-pin.ensures), more-sent (get_or args.flow.now (left args.x) (pos 0)) args.d, less-sent (get_or args.flow.now (entered args.x) (pos 0)) args.d, pre.small-a.sent, pre.small_b.sent, pre.amount, pre.sum, pre.held, ap (λ (k : ℕ). get_or args.sums.now k 0) ((wide.ensures ∙ ap (λ (k : ℕ). get_or args.nets.now k 0) left-pin.ensures)))))
+    (push-code args.flow.now (left args.x) (entered args.x) args.d left-pin.ensures entered-pin.ensures pre.apart (plus-back (get_or args.flow.now left-pin.result (pos 0)) args.d (search rules) (subst (λ (i : ℕ). Small (get_or args.flow.now i (pos 0))) (sym left-pin.ensures) pre.small-a) pre.amount plus.ensures) (minus-back (get_or args.flow.now entered-pin.result (pos 0)) args.d (search rules) (subst (λ (i : ℕ). Small (get_or args.flow.now i (pos 0))) (sym entered-pin.ensures) pre.small_b) pre.amount minus.ensures), sums-code args.sums.now ((wide.ensures ∙ ap (λ (k : ℕ). get_or args.nets.now k 0) left-pin.ensures)) (omega (arith, (sent-by.ensures ∙ ap sent (read_back (get_or args.flow.now left-pin.result (pos 0)) (search rules)) ∙ (ap (λ (i : ℕ). sent (get_or args.flow.now i (pos 0))) left-pin.ensures)), (c.sent_by-2.ensures ∙ ap sent (read_back (get_or args.flow.now entered-pin.result (pos 0)) (search rules)) ∙ (ap (λ (i : ℕ). sent (get_or args.flow.now i (pos 0))) entered-pin.ensures)), (c.sent_by-3.ensures ∙ ap sent (plus-back (get_or args.flow.now left-pin.result (pos 0)) args.d (search rules) (subst (λ (i : ℕ). Small (get_or args.flow.now i (pos 0))) (sym left-pin.ensures) pre.small-a) pre.amount plus.ensures) ∙ ap (λ (i : ℕ). sent (get_or args.flow.now i (pos 0) +ℤ pos args.d)) left-pin.ensures), (c.sent_by-4.ensures ∙ ap sent (minus-back (get_or args.flow.now entered-pin.result (pos 0)) args.d (search rules) (subst (λ (i : ℕ). Small (get_or args.flow.now i (pos 0))) (sym entered-pin.ensures) pre.small_b) pre.amount minus.ensures) ∙ ap (λ (i : ℕ). sent (get_or args.flow.now i (pos 0) +ℤ neg_ℤ (pos args.d))) entered-pin.ensures), more-sent (get_or args.flow.now (left args.x) (pos 0)) args.d, less-sent (get_or args.flow.now (entered args.x) (pos 0)) args.d, pre.small-a.sent, pre.small_b.sent, pre.amount, pre.sum, pre.held, ap (λ (k : ℕ). get_or args.sums.now k 0) ((wide.ensures ∙ ap (λ (k : ℕ). get_or args.nets.now k 0) left-pin.ensures)))))

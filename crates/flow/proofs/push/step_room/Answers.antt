@@ -2,6 +2,7 @@
 use mathlib.Core.Path.{ap₂, sym, ap, ◌∙◌}
 use Prim.Native.Nat.{ℕ, ◌-◌}
 use native.Mathlib.Omega.{arith}
+use borrow.Author.Rules.{rules}
 use lib.IntN.{pos}
 use lib.ListN.{get_or}
 use Rattle.line.specs.Flow.{sent, taken}
@@ -22,13 +23,13 @@ taken_by-requires c =
     let args = c.args in
     let pre = c.requires in
     let left-pin = c.left_pin-a in
-    omega (arith, (ap taken (read_back (get_or args.flow.now left-pin.result (pos 0)) c.taken_by-arg-1.given) ∙ ap (λ (i : ℕ). taken (get_or args.flow.now i (pos 0))) left-pin.ensures), pre.7)
+    omega (arith, (ap taken (read_back (get_or args.flow.now left-pin.result (pos 0)) (search rules)) ∙ ap (λ (i : ℕ). taken (get_or args.flow.now i (pos 0))) left-pin.ensures), pre.7)
 
 pub returns-then-k-eq1 : goal.returns-then-k-eq1
 returns-then-k-eq1 c =
     let args = c.args in
     let left-pin = c.left_pin-a in
-    room-1 args.weight.now args.nets.now args.sums.now args.flow.now args.x (sym c.step_kind-k.ensures ∙ c.if-k-eq1.true) (c.taken_by.ensures ∙ (ap taken (read_back (get_or args.flow.now left-pin.result (pos 0)) c.taken_by-arg-1.given) ∙ ap (λ (i : ℕ). taken (get_or args.flow.now i (pos 0))) left-pin.ensures))
+    room-1 args.weight.now args.nets.now args.sums.now args.flow.now args.x (sym c.step_kind-k.ensures ∙ c.if-k-eq1.true) (c.taken_by.ensures ∙ (ap taken (read_back (get_or args.flow.now left-pin.result (pos 0)) (search rules)) ∙ ap (λ (i : ℕ). taken (get_or args.flow.now i (pos 0))) left-pin.ensures))
 
 pub offset_bounds-flow-b : goal.offset_bounds-flow-b
 offset_bounds-flow-b c =
@@ -43,7 +44,7 @@ returns-then-k-eq2 c =
     let args = c.args in
     let step-kind = c.step_kind-k in
     let entered-pin = c.entered_pin-b in
-    room-2 args.weight.now args.nets.now args.sums.now args.flow.now args.x (sym step-kind.ensures ∙ c.if-k-eq2.true) (c.sent_by.ensures ∙ (ap sent (read_back (get_or args.flow.now entered-pin.result (pos 0)) c.sent_by-arg-1.given) ∙ ap (λ (i : ℕ). sent (get_or args.flow.now i (pos 0))) entered-pin.ensures))
+    room-2 args.weight.now args.nets.now args.sums.now args.flow.now args.x (sym step-kind.ensures ∙ c.if-k-eq2.true) (c.sent_by.ensures ∙ (ap sent (read_back (get_or args.flow.now entered-pin.result (pos 0)) (search rules)) ∙ ap (λ (i : ℕ). sent (get_or args.flow.now i (pos 0))) entered-pin.ensures))
 
 pub offset_bounds-nets-a : goal.offset_bounds-nets-a
 offset_bounds-nets-a c =

@@ -1,3 +1,4 @@
+-- `flow::search::spread` meets its contract: the pins from `lo` up to `i` have been looked at (`Spread`). Assumes nothing.
 use Rattle.flow.proofs.SpreadLaws.{spread_none, spread-skip, spread-mark, ranked, marks}
 use Rattle.flow.proofs.Numbers.{read-sends, read-from}
 use Rattle.flow.proofs.Sets.{in-of, clash}

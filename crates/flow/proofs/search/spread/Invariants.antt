@@ -1,3 +1,4 @@
+-- `flow::search::spread` meets its contract: the pins from `lo` up to `i` have been looked at (`Spread`). Assumes nothing.
 use Rattle.flow.specs.Search.{Spread}
 use Prim.Native.Nat.{◌≤◌, ◌-◌}
 use Rattle.flow.proofs.search.spread.Given as goal

@@ -1,3 +1,4 @@
+-- `flow::search::way_from` meets its contract. Assumes nothing.
 use Rattle.flow.proofs.Numbers.{read-sends}
 use Rattle.flow.specs.Search.{way_from}
 use mathlib.Core.Bool.{Bool, false}
