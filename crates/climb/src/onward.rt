@@ -9,7 +9,7 @@ ghost use Rattle.climb.specs.Climb.{Lay, Named, Entry, Onward, Instead};
 pub const LONG: usize = 40;
 
 // How the pins lo .. hi of a net are looked at, from its pin a: the distance sought, whether a takes, whether the net has room that the way does not use, and the rank that the step would have.
-#[derive(Drop)]
+#[derive(Clone, Copy)]
 struct Look {
     lo: usize,
     hi: usize,

@@ -51,7 +51,7 @@ module _ (s : List ℕ) (h : Sound s) where
       (λ j i.
       let u : j < pin_count s e = omega (arith, i, size) in
       get_or-take (pin_count s e) (drop (first_pin s e) (mods_of s)) j 0 u ∙ get_or-drop (first_pin s e) (mods_of s) j 0
-      ∙ get_or-listed (pin s) (pins s) (first_pin s e + j) 0 (omega (arith, g, most)) ∙ sym (laws.pin_of s e j u)))
+      ∙ get_or-listed (pin s) (pins s) (first_pin s e + j) 0 (omega (arith, g, most)) ∙ sym (laws.pins-at s e j u)))
 
   pub nets-same : nets_from (firsts_of s) (mods_of s) 0 (weights_of s) ≡ book.nets_of s
   nets-same =
