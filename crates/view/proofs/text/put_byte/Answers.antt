@@ -1,0 +1,7 @@
+-- `view::text::put_byte` meets its contract. Assumes nothing.
+use Rattle.view.proofs.Puts.{put_one}
+use borrow.Author.Rules.{rules}
+use Rattle.view.proofs.text.put_byte.Goals as goal
+
+pub returns : goal.returns
+returns c = put_one c.args.at c.args.b c.args.out.now c.requires

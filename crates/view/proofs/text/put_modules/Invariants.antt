@@ -1,0 +1,19 @@
+-- `view::text::put_modules` meets its contract: the lines of the modules below `m` stand. Assumes nothing.
+use Prim.Native.Nat.{ℕ, ◌+◌, ◌-◌, ◌≤◌}
+use mathlib.Core.Path.{◌≡◌, subst}
+use Rattle.side.specs.Sides.{side_of}
+use Rattle.view.specs.Puts.{Put}
+use Rattle.view.specs.Text.{module_lines}
+use Rattle.view.proofs.Lines.{lines_next, lines_long, lines-grow}
+use Rattle.view.proofs.Puts.{put_then, put-none, put-long}
+use borrow.Author.Rules.{rules}
+use native.Mathlib.Omega.{arith}
+use Rattle.view.proofs.text.put_modules.Given as goal
+
+abbrev pub invariant-loop-m : goal.invariant-loop-m
+invariant-loop-m l =
+    (l.m ≤ l.count) × Put (module_lines (side_of l.side) l.m) l.at l.initial.out l.next l.out
+
+abbrev pub decreases-loop-m : goal.decreases-loop-m
+decreases-loop-m l =
+    l.count - l.m

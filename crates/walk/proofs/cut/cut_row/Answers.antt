@@ -1,0 +1,50 @@
+-- `walk::cut::cut_row` meets its contract: the modules on cut nets before `n` are put on, and `first` is the place of the first pin of net `n`. Assumes nothing.
+use Rattle.split.proofs.Loads.{first-zero}
+use Rattle.walk.proofs.Cuts.{cut-start, cut-next, cut-row}
+use Rattle.walk.specs.Parts.{Adds}
+use Rattle.walk.specs.Walk.{on_cut}
+use Rattle.side.proofs.Places.{next-within}
+use Rattle.side.specs.Sides.{side_of}
+use Rattle.book.proofs.CardLaws.{first_pin-suc}
+use Rattle.book.specs.Cards.{nets_of}
+use Rattle.book.specs.Format.{first_pin}
+use Rattle.std.specs.Prelude.{◌≡◌, ℕ, ◌+◌, ◌-◌, ◌≤◌, take}
+use mathlib.Core.Path.{sym, ap₂, ◌∙◌}
+use borrow.Author.Rules.{rules}
+use native.Mathlib.Omega.{arith}
+use Rattle.walk.proofs.cut.cut_row.Goals as goal
+
+pub loop-n-init : goal.loop-n-init
+loop-n-init c =
+    let a = c.args in
+    (omega arith, first-zero a.book.now, cut-start a.book.now (side_of a.x.now) _)
+
+pub put_cut-requires : goal.put_cut-requires
+put_cut-requires c =
+    let p = c.requires in
+    let clear' = c.clear in
+    let i = c.loop-n in
+    (p.0, record { sound = p.0.sound; enough = omega (arith, i.invariant.2.long, clear'.ensures.long, p.1.enough) }, record { under = omega arith; begins = i.invariant.1 })
+
+pub overflow_add-first : goal.overflow_add-first
+overflow_add-first c =
+    let a = c.args in
+    let p = c.requires in
+    let i = c.loop-n in
+    omega (arith, c.pin_count-first.ensures.0, next-within a.book.now p.0.sound i.n (omega arith))
+
+pub loop-n-preserved : goal.loop-n-preserved
+loop-n-preserved c =
+    let a = c.args in
+    let i = c.loop-n in
+    let put-cut' = c.put_cut in
+    (omega arith, ap₂ (λ (p q : ℕ). p + q) i.invariant.1 c.pin_count-first.ensures.0 ∙ sym (first_pin-suc a.book.now i.n), cut-next a.book.now (side_of a.x.now) i.n _ i.out _ (omega arith) i.invariant.2 put-cut'.ensures)
+
+pub shape_of-out : goal.shape_of-out
+shape_of-out c = c.loop-n.invariant.2.long ∙ c.clear.ensures.long
+
+pub returns : goal.returns
+returns c =
+    let a = c.args in
+    let clear' = c.clear in
+    cut-row a.book.now (side_of a.x.now) c.loop-n.n a.out.now _ c.loop-n.out (omega arith) clear'.ensures c.loop-n.invariant.2

@@ -1,0 +1,20 @@
+-- `walk::near::near_in` meets its contract: what the engine reached is written as a row of bits. Assumes nothing.
+use Rattle.walk.proofs.Steps.{near-row}
+use mathlib.Core.Path.{◌∙◌}
+use borrow.Author.Rules.{rules}
+use native.Mathlib.Omega.{arith}
+use Rattle.walk.proofs.near.near_in.Goals as goal
+
+pub write_side-requires : goal.write_side-requires
+write_side-requires c =
+    let p = c.requires in
+    let raise' = c.raise in
+    omega (arith, raise'.auto.how, p.0.how, p.3)
+
+pub returns : goal.returns
+returns c =
+    let a = c.args in
+    let p = c.requires in
+    let raise' = c.raise in
+    let write-side' = c.write_side in
+    near-row a.first.now a.mods.now a.weight.now a.mark.now p.0.laid _ _ a.x.now _ _ (raise'.auto.how ∙ p.0.how) raise'.ensures write-side'.ensures
