@@ -8,7 +8,7 @@ use Rattle.line.specs.Flow.{only}
 use Rattle.line.proofs.Below.{near-alike}
 use Rattle.book.specs.Checks.{most_modules}
 use Rattle.book.specs.First.{or_else, lowest}
-use Rattle.book.specs.Format.{modules, nets, pins, area, weight, pin}
+use Rattle.book.specs.Format.{modules, nets, pins, weight, pin}
 use Rattle.book.specs.Sound.{Sound}
 use Rattle.book.specs.Cards as book
 use Rattle.book.specs.declared.Found.TheVariants.{At, Nothing}
@@ -25,7 +25,7 @@ use Rattle.gate.specs.declared.Verdict.{Verdict}
 use Rattle.gate.specs.declared.Verdict.TheVariants.{Below, Within, Above}
 use Rattle.split.specs.Writes.{Written}
 use Rattle.split.proofs.SameCard.{near-slices, slices-laid}
-use Rattle.walk.specs.Walk.{Turn, stops, takes, ends, Row, number, on_cut, free_in, choice, taking, turn, taken_of, way_of, after, after_turn, row}
+use Rattle.walk.specs.Walk.{Turn, stops, takes, ends, Row, number, on_cut, free_in, choice, taking, turn, taken_of, way_of, after, after_turn}
 use Rattle.walk.specs.Parts.{side_from, marks_of, free_in_row, choice_in, CutRow, Pinned}
 use Rattle.walk.specs.Work.{Ground, NearRow, Loaded, Marked, way_from, taking_from, Turned, Says, turn_of, Stepped, OneRound}
 use Rattle.walk.proofs.Rounds.{choice-taken, after-three}

@@ -7,7 +7,7 @@ use Rattle.book.specs.Sound.{Sound}
 use Rattle.book.specs.Cards as book
 use Rattle.side.specs.Sides.{side_of, SpareClear}
 use Rattle.side.specs.Prices.{most_area}
-use Rattle.flow.specs.Cards.{card_of, Laid}
+use Rattle.flow.specs.Cards.{Laid}
 use Rattle.flow.specs.Search.{Tables}
 use Rattle.gate.specs.Gates.{band_says}
 use Rattle.gate.specs.declared.Band.{Band}

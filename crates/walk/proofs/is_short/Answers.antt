@@ -3,7 +3,6 @@ use Rattle.walk.specs.Call.{too_short}
 use Rattle.side.specs.Given.{is_short}
 use Rattle.std.specs.Prelude.{ℕ, ◌+◌, ◌*◌, Bool, ◌||◌, ltb, length}
 use mathlib.Core.Path.{ap₂}
-use borrow.Author.Rules.{rules}
 use Rattle.walk.proofs.is_short.Goals as goal
 
 pub returns : goal.returns

@@ -2,7 +2,6 @@
 use Rattle.walk.proofs.Whole.{read-good, read-refuses}
 use Rattle.book.proofs.Sound.{sound}
 use mathlib.Core.Path.{refl, sym, ◌∙◌}
-use borrow.Author.Rules.{rules}
 use Rattle.walk.proofs.walk.Goals as goal
 
 pub walk_sound-requires : goal.walk_sound-requires

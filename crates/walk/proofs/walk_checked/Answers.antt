@@ -2,7 +2,6 @@
 use Rattle.walk.proofs.Whole.{wrote}
 use Rattle.gate.specs.Gates.{band_says}
 use mathlib.Core.Path.{refl}
-use borrow.Author.Rules.{rules}
 use Rattle.walk.proofs.walk_checked.Goals as goal
 
 pub finish-requires : goal.finish-requires

@@ -3,7 +3,6 @@ use Rattle.walk.proofs.Steps.{round-lent}
 use Rattle.walk.specs.Work.{Marked}
 use Rattle.flow.specs.Cards.{card_of}
 use Rattle.line.specs.Flow.{Fair}
-use Rattle.book.specs.Format.{modules}
 use Rattle.book.specs.Checks.{most_modules}
 use lib.Seq.{length-take-le}
 use Rattle.std.specs.Prelude.{◌≡◌, ℕ, ◌≤◌, length, take}

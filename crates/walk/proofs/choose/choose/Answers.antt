@@ -6,7 +6,6 @@ use Rattle.std.specs.Prelude.{length}
 use Rattle.book.specs.declared.Found.{Found}
 use Rattle.book.specs.First.{lowest, or_else}
 use mathlib.Core.Path.{sym, ap, ◌∙◌}
-use borrow.Author.Rules.{rules}
 use Rattle.walk.proofs.choose.choose.Goals as goal
 
 pub returns-in-At : goal.returns-in-At

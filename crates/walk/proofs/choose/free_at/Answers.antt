@@ -4,7 +4,6 @@ use Rattle.walk.proofs.Marks.{free_more}
 use Rattle.book.specs.Format.{mark}
 use Rattle.std.specs.Prelude.{true, false}
 use mathlib.Core.Path.{refl}
-use borrow.Author.Rules.{rules}
 use native.Mathlib.Omega.{arith}
 use Rattle.walk.proofs.choose.free_at.Goals as goal
 

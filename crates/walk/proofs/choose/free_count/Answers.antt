@@ -2,9 +2,8 @@
 use Rattle.walk.proofs.Marks.{none_free}
 use Rattle.walk.specs.Walk.{free_to}
 use Rattle.book.specs.Format.{modules, mark}
-use Rattle.std.specs.Prelude.{◌≡◌, ◌-◌, ◌≤◌}
+use Rattle.std.specs.Prelude.{◌≡◌}
 use mathlib.Core.Path.{ap, ◌∙◌}
-use borrow.Author.Rules.{rules}
 use native.Mathlib.Omega.{arith}
 use Rattle.walk.proofs.choose.free_count.Goals as goal
 

@@ -1,11 +1,7 @@
 -- `walk::choose::free_count` meets its contract: `sum` is how many modules below `m` are free. Assumes nothing.
-use Rattle.walk.proofs.Marks.{none_free}
 use Rattle.walk.specs.Walk.{free_to}
-use Rattle.book.specs.Format.{modules, mark}
+use Rattle.book.specs.Format.{mark}
 use Rattle.std.specs.Prelude.{◌≡◌, ◌-◌, ◌≤◌}
-use mathlib.Core.Path.{ap, ◌∙◌}
-use borrow.Author.Rules.{rules}
-use native.Mathlib.Omega.{arith}
 use Rattle.walk.proofs.choose.free_count.Given as goal
 
 abbrev pub invariant-loop-m : goal.invariant-loop-m

@@ -1,7 +1,6 @@
 -- `walk::choose::is_free_in` meets its contract: both tests in one. Assumes nothing.
 use Rattle.std.specs.Prelude.{Bool, ◌&&◌}
 use mathlib.Core.Path.{ap₂}
-use borrow.Author.Rules.{rules}
 use Rattle.walk.proofs.choose.is_free_in.Goals as goal
 
 pub returns : goal.returns

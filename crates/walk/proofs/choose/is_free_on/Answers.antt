@@ -1,7 +1,6 @@
 -- `walk::choose::is_free_on` meets its contract: both tests in one. Assumes nothing.
 use Rattle.std.specs.Prelude.{Bool, ◌&&◌, eqb, get_or}
 use mathlib.Core.Path.{ap}
-use borrow.Author.Rules.{rules}
 use Rattle.walk.proofs.choose.is_free_on.Goals as goal
 
 pub returns : goal.returns

@@ -1,7 +1,6 @@
 -- `walk::choose::is_on` meets its contract: the answer is the bit, or its opposite. Assumes nothing.
 use Rattle.std.specs.Prelude.{not}
 use mathlib.Core.Path.{ap}
-use borrow.Author.Rules.{rules}
 use Rattle.walk.proofs.choose.is_on.Goals as goal
 
 pub returns-then-on : goal.returns-then-on

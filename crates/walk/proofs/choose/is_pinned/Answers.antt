@@ -1,7 +1,6 @@
 -- `walk::choose::is_pinned` meets its contract: all three tests in one. Assumes nothing.
 use Rattle.std.specs.Prelude.{Bool, ◌&&◌, ◌||◌, eqb, get_or}
 use mathlib.Core.Path.{ap}
-use borrow.Author.Rules.{rules}
 use Rattle.walk.proofs.choose.is_pinned.Goals as goal
 
 pub returns : goal.returns

@@ -3,11 +3,8 @@ use Rattle.walk.specs.Parts.{free_in_row, side_from}
 use Rattle.side.specs.Sides.{side_of}
 use Rattle.walk.proofs.Marks.{lowest_start}
 use Rattle.book.proofs.Firsts.{lowest-more, lowest-found, lowest-ended}
-use Rattle.book.specs.declared.Found.TheVariants.{Nothing}
-use Rattle.book.specs.First.{lowest}
-use Rattle.std.specs.Prelude.{◌≡◌, ◌-◌, ◌≤◌, length}
+use Rattle.std.specs.Prelude.{length}
 use mathlib.Core.Path.{sym, ◌∙◌}
-use borrow.Author.Rules.{rules}
 use native.Mathlib.Omega.{arith}
 use Rattle.walk.proofs.choose.lowest_cut.Goals as goal
 

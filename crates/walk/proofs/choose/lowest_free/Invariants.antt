@@ -2,14 +2,9 @@
 use Rattle.walk.specs.Parts.{marks_of, side_from}
 use Rattle.walk.specs.Walk.{free_in}
 use Rattle.side.specs.Sides.{side_of}
-use Rattle.walk.proofs.Marks.{lowest_start}
-use Rattle.book.proofs.Firsts.{lowest-more, lowest-found, lowest-ended}
 use Rattle.book.specs.declared.Found.TheVariants.{Nothing}
 use Rattle.book.specs.First.{lowest}
 use Rattle.std.specs.Prelude.{◌≡◌, ◌-◌, ◌≤◌, length}
-use mathlib.Core.Path.{sym, ◌∙◌}
-use borrow.Author.Rules.{rules}
-use native.Mathlib.Omega.{arith}
 use Rattle.walk.proofs.choose.lowest_free.Given as goal
 
 abbrev pub invariant-loop-m : goal.invariant-loop-m

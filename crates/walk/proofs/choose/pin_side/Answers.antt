@@ -4,9 +4,8 @@ use Rattle.walk.specs.Parts.{side_from, Pinned}
 use Rattle.side.specs.Sides.{side_of}
 use Rattle.line.specs.Flow.{only}
 use Rattle.line.specs.Card.{either}
-use Rattle.std.specs.Prelude.{◌≡◌, ℕ, ◌-◌, ◌≤◌, length}
+use Rattle.std.specs.Prelude.{◌≡◌, ℕ, length}
 use mathlib.Core.Path.{subst}
-use borrow.Author.Rules.{rules}
 use native.Mathlib.Omega.{arith}
 use Rattle.walk.proofs.choose.pin_side.Goals as goal
 

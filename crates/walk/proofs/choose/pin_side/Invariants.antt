@@ -1,13 +1,9 @@
 -- `walk::choose::pin_side` meets its contract: the modules below `i` have their marks. Assumes nothing.
-use Rattle.walk.proofs.Marks.{pinned-start, pinned-next}
 use Rattle.walk.specs.Parts.{side_from, Pinned}
 use Rattle.side.specs.Sides.{side_of}
 use Rattle.line.specs.Flow.{only}
 use Rattle.line.specs.Card.{either}
-use Rattle.std.specs.Prelude.{◌≡◌, ℕ, ◌-◌, ◌≤◌, length}
-use mathlib.Core.Path.{subst}
-use borrow.Author.Rules.{rules}
-use native.Mathlib.Omega.{arith}
+use Rattle.std.specs.Prelude.{◌-◌, ◌≤◌, length}
 use Rattle.walk.proofs.choose.pin_side.Given as goal
 
 abbrev pub invariant-loop-i : goal.invariant-loop-i

@@ -1,10 +1,5 @@
 -- `walk::cut::clear` meets its contract: the bytes before `i` are 0. Assumes nothing.
-use Rattle.walk.proofs.Cuts.{cleared, zero-next}
 use Rattle.std.specs.Prelude.{◌≡◌, ℕ, ◌-◌, ◌<◌, ◌≤◌, length, get_or}
-use native.Mathlib.Nat.{not-suc-le-zero}
-use mathlib.Core.Path.{refl, ◌∙◌}
-use borrow.Author.Rules.{rules}
-use native.Mathlib.Omega.{arith}
 use Rattle.walk.proofs.cut.clear.Given as goal
 
 abbrev pub invariant-loop-i : goal.invariant-loop-i

@@ -1,7 +1,6 @@
 -- `walk::cut::put_cut` meets its contract: the net is cut, or it is not. Assumes nothing.
 use Rattle.walk.proofs.Cuts.{cut_on, cut_off}
 use Rattle.side.specs.Sides.{side_of}
-use borrow.Author.Rules.{rules}
 use Rattle.walk.proofs.cut.put_cut.Goals as goal
 
 pub returns-then-crosses : goal.returns-then-crosses

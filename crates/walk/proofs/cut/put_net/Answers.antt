@@ -1,11 +1,5 @@
 -- `walk::cut::put_net` meets its contract: the modules of the pins before pin `j` are put on. Assumes nothing.
 use Rattle.walk.proofs.Cuts.{net-start, net-next, net-all}
-use Rattle.walk.specs.Parts.{Adds}
-use Rattle.book.specs.Cards.{pins_of}
-use Rattle.line.specs.Flow.{only}
-use Rattle.line.specs.Card.{touches}
-use Rattle.std.specs.Prelude.{◌-◌, ◌≤◌, take}
-use borrow.Author.Rules.{rules}
 use native.Mathlib.Omega.{arith}
 use Rattle.walk.proofs.cut.put_net.Goals as goal
 

@@ -1,11 +1,9 @@
 -- `walk::finish::whole_area` meets its contract: `sum` is the area of the modules below `m`. Assumes nothing.
-use Rattle.std.specs.Prelude.{◌≡◌, ◌-◌, ◌*◌, ◌≤◌, true}
+use Rattle.std.specs.Prelude.{◌≡◌, true}
 use Rattle.walk.proofs.Ended.{area-none, area-more}
-use Rattle.side.specs.Prices.{most_number}
 use Rattle.book.specs.Format.{modules, area}
 use Rattle.line.specs.Card.{area_to}
 use mathlib.Core.Path.{ap, ◌∙◌}
-use borrow.Author.Rules.{rules}
 use native.Mathlib.Omega.{arith}
 use Rattle.walk.proofs.finish.whole_area.Goals as goal
 

@@ -4,7 +4,6 @@ use Rattle.book.specs.Format.{modules}
 use Rattle.walk.specs.Call.{over}
 use Rattle.std.specs.Prelude.{ℕ, ◌+◌, ◌/◌, List, take}
 use mathlib.Core.Path.{ap, ◌∙◌}
-use borrow.Author.Rules.{rules}
 use native.Mathlib.Omega.{arith}
 use Rattle.walk.proofs.finish.write_side.Goals as goal
 

@@ -1,7 +1,6 @@
 -- `walk::near::near` meets its contract: the work is as long as the engine asks. Assumes nothing.
 use mathlib.Core.Path.{sym, ◌∙◌}
 use lib.Seq.{length-take-le}
-use borrow.Author.Rules.{rules}
 use native.Mathlib.Omega.{arith}
 use Rattle.walk.proofs.near.near.Goals as goal
 

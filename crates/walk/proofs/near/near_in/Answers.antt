@@ -1,7 +1,6 @@
 -- `walk::near::near_in` meets its contract: what the engine reached is written as a row of bits. Assumes nothing.
 use Rattle.walk.proofs.Steps.{near-row}
 use mathlib.Core.Path.{◌∙◌}
-use borrow.Author.Rules.{rules}
 use native.Mathlib.Omega.{arith}
 use Rattle.walk.proofs.near.near_in.Goals as goal
 

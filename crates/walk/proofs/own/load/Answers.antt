@@ -1,6 +1,5 @@
 -- `walk::own::load` meets its contract: the tables are those of the loaded slices. Assumes nothing.
 use Rattle.walk.proofs.Loads.{buildable, loaded}
-use borrow.Author.Rules.{rules}
 use Rattle.walk.proofs.own.load.Goals as goal
 
 pub build-requires : goal.build-requires

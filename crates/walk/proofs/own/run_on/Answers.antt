@@ -1,6 +1,5 @@
 -- `walk::own::run_on` meets its contract: the loaded slices are those that the rounds ask for. Assumes nothing.
 use mathlib.Core.Path.{sym, ◌∙◌}
-use borrow.Author.Rules.{rules}
 use Rattle.walk.proofs.own.run_on.Goals as goal
 
 pub run-requires : goal.run-requires

@@ -3,7 +3,6 @@ use Rattle.book.specs.Checks.{most_modules, most_nets, most_pins}
 use lib.Seq.{length-take-le}
 use Rattle.std.specs.Prelude.{ℕ, ◌+◌, ◌≤◌}
 use mathlib.Core.Path.{sym, ap, ◌∙◌}
-use borrow.Author.Rules.{rules}
 use native.Mathlib.Omega.{arith}
 use Rattle.walk.proofs.own.run_own.Goals as goal
 

@@ -2,7 +2,6 @@
 use Rattle.walk.proofs.Steps.{ground, one-round}
 use Rattle.gate.specs.Gates.{band_says}
 use mathlib.Core.Path.{refl}
-use borrow.Author.Rules.{rules}
 use native.Mathlib.Omega.{arith}
 use Rattle.walk.proofs.round.round_on.Goals as goal
 

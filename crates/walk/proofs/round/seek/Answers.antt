@@ -3,7 +3,6 @@ use Rattle.walk.proofs.Steps.{choice-row}
 use Rattle.walk.specs.Parts.{side_from}
 use Rattle.side.specs.Sides.{side_of}
 use mathlib.Core.Path.{◌∙◌}
-use borrow.Author.Rules.{rules}
 use Rattle.walk.proofs.round.seek.Goals as goal
 
 pub returns : goal.returns

@@ -2,7 +2,6 @@
 use Rattle.walk.proofs.Steps.{step-below, step-above, step-within}
 use Rattle.side.specs.Sides.{side_of}
 use mathlib.Core.Path.{refl}
-use borrow.Author.Rules.{rules}
 use Rattle.walk.proofs.round.step.Goals as goal
 
 pub returns-in-Below : goal.returns-in-Below

@@ -4,7 +4,6 @@ use Rattle.walk.specs.Parts.{side_from}
 use Rattle.side.specs.Sides.{side_of}
 use Rattle.std.specs.Prelude.{not}
 use mathlib.Core.Path.{refl, sym, ◌∙◌}
-use borrow.Author.Rules.{rules}
 use native.Mathlib.Omega.{arith}
 use Rattle.walk.proofs.round.take_one.Goals as goal
 

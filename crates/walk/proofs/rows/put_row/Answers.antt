@@ -1,6 +1,5 @@
 -- `walk::rows::put_row` meets its contract: four numbers, one after the other. Assumes nothing.
 use Rattle.walk.proofs.Bytes.{row-bytes}
-use borrow.Author.Rules.{rules}
 use native.Mathlib.Omega.{arith}
 use Rattle.walk.proofs.rows.put_row.Goals as goal
 

@@ -1,7 +1,6 @@
 -- `walk::rows::put_u16` meets its contract: two bytes, one after the other. Assumes nothing.
 use lib.Seq.{lt-length-set}
 use Rattle.walk.proofs.Bytes.{two_bytes}
-use borrow.Author.Rules.{rules}
 use native.Mathlib.Omega.{arith}
 use Rattle.walk.proofs.rows.put_u16.Goals as goal
 

@@ -1,6 +1,5 @@
 -- `walk::rows::put_u32` meets its contract: two halves, the low one first. Assumes nothing.
 use Rattle.walk.proofs.Bytes.{four_bytes}
-use borrow.Author.Rules.{rules}
 use native.Mathlib.Omega.{arith}
 use Rattle.walk.proofs.rows.put_u32.Goals as goal
 

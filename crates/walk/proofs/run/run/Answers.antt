@@ -1,13 +1,9 @@
 -- `walk::run::run` meets its contract: the walk stands at its marks, with its rows written; fewer modules are free after each round. Assumes nothing.
 use Rattle.walk.proofs.Runs.{Going, going_start, going-room, going-few, going-again, going_less, going-stops, going-ends}
 use Rattle.walk.specs.Runs.{standing_marks}
-use Rattle.walk.specs.Parts.{marks_of}
-use Rattle.walk.specs.Walk.{free_to}
 use Rattle.flow.proofs.Raised.{zeros-fair}
-use Rattle.book.specs.Format.{modules}
-use Rattle.std.specs.Prelude.{◌≡◌, ℕ, length}
+use Rattle.std.specs.Prelude.{ℕ}
 use mathlib.Core.Path.{refl, sym, ◌∙◌, subst}
-use borrow.Author.Rules.{rules}
 use native.Mathlib.Omega.{arith}
 use Rattle.walk.proofs.run.run.Goals as goal
 

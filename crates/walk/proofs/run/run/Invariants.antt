@@ -1,14 +1,10 @@
 -- `walk::run::run` meets its contract: the walk stands at its marks, with its rows written; fewer modules are free after each round. Assumes nothing.
-use Rattle.walk.proofs.Runs.{Going, going_start, going-room, going-few, going-again, going_less, going-stops, going-ends}
+use Rattle.walk.proofs.Runs.{Going}
 use Rattle.walk.specs.Runs.{standing_marks}
 use Rattle.walk.specs.Parts.{marks_of}
 use Rattle.walk.specs.Walk.{free_to}
-use Rattle.flow.proofs.Raised.{zeros-fair}
 use Rattle.book.specs.Format.{modules}
-use Rattle.std.specs.Prelude.{◌≡◌, ℕ, length}
-use mathlib.Core.Path.{refl, sym, ◌∙◌, subst}
-use borrow.Author.Rules.{rules}
-use native.Mathlib.Omega.{arith}
+use Rattle.std.specs.Prelude.{◌≡◌, length}
 use Rattle.walk.proofs.run.run.Given as goal
 
 abbrev pub invariant-loop-band : goal.invariant-loop-band

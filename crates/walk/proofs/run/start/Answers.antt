@@ -5,7 +5,6 @@ use Rattle.book.specs.Checks.{most_modules}
 use lib.Seq.{length-take-le, take_at}
 use Rattle.std.specs.Prelude.{◌≤◌, length}
 use mathlib.Core.Path.{refl, sym, ap, ◌∙◌}
-use borrow.Author.Rules.{rules}
 use native.Mathlib.Omega.{arith}
 use Rattle.walk.proofs.run.start.Goals as goal
 
