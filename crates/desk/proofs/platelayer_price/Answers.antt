@@ -1,0 +1,33 @@
+-- `desk::platelayer_price` meets its contract: the price and the place are small. Assumes nothing.
+use mathlib.Core.Path.{◌∙◌, sym}
+use native.Mathlib.Omega.{arith}
+use lib.IntN.{pos}
+use mir.Val.{SFits}
+use mir.ValLaws.{to_z-of_z}
+use mir.Syntax.{w64}
+use Rattle.desk.proofs.Values.{fits, price-few}
+use Rattle.desk.proofs.Places.{price-place}
+use Rattle.desk.proofs.platelayer_price.Goals as goal
+use Rattle.desk.proofs.platelayer_price.Goals.{In-Price}
+
+price-fits : (c : In-Price) → SFits w64 (pos c.in-Price.price)
+price-fits c =
+    let a = c.args in
+    let bytes = c.type_inv.book in
+    fits c.in-Price.price (omega (arith, price-few a.book.now a.side.now c.in-Price.price (λ i. (bytes i).fits) (sym c.price.ensures ∙ c.in-Price.is)))
+
+pub overflow_cast-price : goal.overflow_cast-price
+overflow_cast-price c = price-fits (goal.at.overflow_cast-price c).In-Price
+
+pub refused-requires : goal.refused-requires
+refused-requires c =
+    let a = c.args in
+    let bytes = c.type_inv.side in
+    price-place a.book.now a.side.now c.in-Refused.why (λ i. (bytes i).fits) (sym c.price.ensures ∙ c.in-Refused.is)
+
+pub returns-in-Price : goal.returns-in-Price
+returns-in-Price c =
+    rw (sym c.price.ensures ∙ c.in-Price.is) (c.done.ensures ∙ rw (to_z-of_z w64 (pos c.in-Price.price) (price-fits (goal.at.returns-in-Price c).In-Price)))
+
+pub returns-in-Refused : goal.returns-in-Refused
+returns-in-Refused c = rw (sym c.price.ensures ∙ c.in-Refused.is) c.refused.ensures
