@@ -8,9 +8,11 @@ mod rules;
 mod say;
 mod sides;
 
-fn main() {
-    reader::run();
-    sides::run();
-    checks::run();
-    rules::run();
+use std::io;
+
+fn main(rt: HostRuntime) -> io::Result<()> {
+    reader::run(&rt)?;
+    sides::run(&rt)?;
+    checks::run(&rt)?;
+    rules::run(&rt)
 }

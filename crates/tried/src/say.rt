@@ -1,82 +1,82 @@
 // What the table prints of an answer.
 use audit::Checked;
 use book::{Reading, Refusal};
-use libc::STDOUT_FILENO;
 use side::{Moved, Priced};
+use std::io;
 
-pub fn text(s: &[u8]) {
-    io::write_all(STDOUT_FILENO, s);
+pub fn text(rt: &impl Print, s: &[u8]) -> io::Result<()> {
+    rt.write_all(s)
 }
 
-pub fn number(n: usize) {
-    io::print_decimal(STDOUT_FILENO, n as u64);
+pub fn number(rt: &impl Print, n: usize) -> io::Result<()> {
+    rt.print(n)
 }
 
 // A change of the table's small books: from -2 to 2.
-pub fn signed(x: i64) {
+pub fn signed(rt: &impl Print, x: i64) -> io::Result<()> {
     if x == 0 {
-        text(b"0");
+        text(rt, b"0")
     } else if x == 1 {
-        text(b"1");
+        text(rt, b"1")
     } else if x == 2 {
-        text(b"2");
+        text(rt, b"2")
     } else if x == -1 {
-        text(b"-1");
+        text(rt, b"-1")
     } else if x == -2 {
-        text(b"-2");
+        text(rt, b"-2")
     } else {
-        text(b"out of range");
+        text(rt, b"out of range")
     }
 }
 
-pub fn refused(r: Refusal) {
-    text(b": refused ");
-    number(r.number());
-    text(b" at ");
-    number(r.place());
-    text(b"\n");
+pub fn refused(rt: &impl Print, r: Refusal) -> io::Result<()> {
+    text(rt, b": refused ")?;
+    number(rt, r.number())?;
+    text(rt, b" at ")?;
+    number(rt, r.place())?;
+    text(rt, b"\n")
 }
 
-pub fn priced(p: Priced) {
+pub fn priced(rt: &impl Print, p: Priced) -> io::Result<()> {
     match p {
         Priced::Price(n) => {
-            text(b": price ");
-            number(n);
-            text(b"\n");
+            text(rt, b": price ")?;
+            number(rt, n)?;
+            text(rt, b"\n")
         }
-        Priced::Refused(why) => refused(why),
+        Priced::Refused(why) => refused(rt, why),
     }
 }
 
-pub fn moved(m: Moved) {
+pub fn moved(rt: &impl Print, m: Moved) -> io::Result<()> {
     match m {
         Moved::Change(x) => {
-            text(b": change ");
-            signed(x);
-            text(b"\n");
+            text(rt, b": change ")?;
+            signed(rt, x)?;
+            text(rt, b"\n")
         }
-        Moved::Refused(why) => refused(why),
+        Moved::Refused(why) => refused(rt, why),
     }
 }
 
-pub fn checked(c: Checked) {
+pub fn checked(rt: &impl Print, c: Checked) -> io::Result<()> {
     match c {
-        Checked::Accepted => text(b": accepted\n"),
-        Checked::Refused(why) => refused(why),
+        Checked::Accepted => text(rt, b": accepted\n"),
+        Checked::Refused(why) => refused(rt, why),
     }
 }
 
-pub fn reading(r: Reading) {
+pub fn reading(rt: &impl Print, r: Reading) -> io::Result<()> {
     match r {
         Reading::Good(b) => {
-            text(b": read ");
-            number(b.modules);
-            text(b" modules ");
-            number(b.nets);
-            text(b" nets ");
-            number(b.pins);
-            text(b" pins\n");
+            text(rt, b": read ")?;
+            number(rt, b.modules)?;
+            text(rt, b" modules ")?;
+            number(rt, b.nets)?;
+            text(rt, b" nets ")?;
+            number(rt, b.pins)?;
+            text(rt, b" pins\n")
         }
-        Reading::Refused(why) => refused(why),
+        Reading::Refused(why) => refused(rt, why),
     }
 }

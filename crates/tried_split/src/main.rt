@@ -9,9 +9,11 @@ mod say;
 mod sizes;
 mod ways;
 
-fn main() {
-    rows::run();
-    ways::run();
-    sizes::run();
-    refusals::run();
+use std::io;
+
+fn main(rt: HostRuntime) -> io::Result<()> {
+    rows::run(&rt)?;
+    ways::run(&rt)?;
+    sizes::run(&rt)?;
+    refusals::run(&rt)
 }

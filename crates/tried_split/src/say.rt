@@ -3,58 +3,58 @@ ghost use Rattle.std.specs.Prelude.{◌<◌};
 
 use audit::Checked;
 use book::Refusal;
-use libc::STDOUT_FILENO;
+use std::io;
 
-pub fn text(s: &[u8]) {
-    io::write_all(STDOUT_FILENO, s);
+pub fn text(rt: &impl Print, s: &[u8]) -> io::Result<()> {
+    rt.write_all(s)
 }
 
-pub fn number(n: usize) {
-    io::print_decimal(STDOUT_FILENO, n as u64);
+pub fn number(rt: &impl Print, n: usize) -> io::Result<()> {
+    rt.print(n)
 }
 
 // Module m, where it is on the side or off it, as is asked; what lies outside the buffer is left out.
-fn module(side: &[u8], m: usize, on: bool) {
+fn module(rt: &impl Print, side: &[u8], m: usize, on: bool) -> io::Result<()> {
     if m / 8 < side.len() {
         if side::inside(side, m) == on {
-            text(b" ");
-            number(m);
+            text(rt, b" ")?;
+            number(rt, m)?;
         }
     }
+    Ok(())
 }
 
 // The modules below so many that are on a side or off it, rising.
-fn modules(side: &[u8], count: usize, on: bool) {
-    let mut m = 0;
-    while m < count {
-        module(side, m, on);
-        m += 1;
+fn modules(rt: &impl Print, side: &[u8], count: usize, on: bool) -> io::Result<()> {
+    for m in 0..count {
+        module(rt, side, m, on)?;
     }
+    Ok(())
 }
 
 // A side, its spare bits too.
-pub fn side(side: &[u8], count: usize)
+pub fn side(rt: &impl Print, side: &[u8], count: usize) -> io::Result<()>
     requires { count < 4096 }
 {
-    modules(side, 8 * ((count + 7) / 8), true);
+    modules(rt, side, 8 * ((count + 7) / 8), true)
 }
 
 // A side of a large book, by what it lacks.
-pub fn all_but(side: &[u8], count: usize) {
-    text(b" all but");
-    modules(side, count, false);
+pub fn all_but(rt: &impl Print, side: &[u8], count: usize) -> io::Result<()> {
+    text(rt, b" all but")?;
+    modules(rt, side, count, false)
 }
 
-pub fn refused(r: Refusal) {
-    text(b" refused ");
-    number(r.number());
-    text(b" at ");
-    number(r.place());
+pub fn refused(rt: &impl Print, r: Refusal) -> io::Result<()> {
+    text(rt, b" refused ")?;
+    number(rt, r.number())?;
+    text(rt, b" at ")?;
+    number(rt, r.place())
 }
 
-pub fn checked(c: Checked) {
+pub fn checked(rt: &impl Print, c: Checked) -> io::Result<()> {
     match c {
-        Checked::Accepted => text(b" accepted"),
-        Checked::Refused(why) => refused(why),
+        Checked::Accepted => text(rt, b" accepted"),
+        Checked::Refused(why) => refused(rt, why),
     }
 }

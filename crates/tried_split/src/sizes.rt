@@ -1,12 +1,14 @@
 // The rows of the table on large books, in buffers that just do. The checker is left out, to stay within the interpreter's steps.
 use crate::lent;
+use std::io;
 
 // Three nets of these pins.
-fn few(name: &[u8], marks: &[u16], pins: &[u16]) {
+fn few(rt: &impl Print, name: &[u8], marks: &[u16], pins: &[u16]) -> io::Result<()> {
     let mut near = [0xA5u8; 32];
     let mut far = [0xA5u8; 32];
     let mut flow = [77i32; 8];
     lent::card(
+        rt,
         name,
         marks,
         &[3, 3, 2, 3, 4, 2],
@@ -15,26 +17,31 @@ fn few(name: &[u8], marks: &[u16], pins: &[u16]) {
         &mut near,
         &mut far,
         &mut flow,
-    );
+    )
 }
 
-fn below(marks: &[u16; 255]) {
-    few(b"255 modules", marks, &[0, 127, 253, 127, 128, 254, 8, 254]);
+fn below(rt: &impl Print, marks: &[u16; 255]) -> io::Result<()> {
+    few(
+        rt,
+        b"255 modules",
+        marks,
+        &[0, 127, 253, 127, 128, 254, 8, 254],
+    )
 }
 
-fn most(marks: &[u16; 256]) {
-    few(b"256 modules", marks, &[0, 7, 255, 7, 8, 255, 9, 247]);
+fn most(rt: &impl Print, marks: &[u16; 256]) -> io::Result<()> {
+    few(rt, b"256 modules", marks, &[0, 7, 255, 7, 8, 255, 9, 247])
 }
 
-fn few_nets() {
+fn few_nets(rt: &impl Print) -> io::Result<()> {
     let mut marks = [0u16; 255];
     marks[0] = 1;
     marks[254] = 2;
-    below(&marks);
+    below(rt, &marks)?;
     let mut more = [0u16; 256];
     more[8] = 2;
     more[255] = 1;
-    most(&more);
+    most(rt, &more)
 }
 
 // The module of pin p. Each net has one module of each 64; modules 0 and 255 are on two nets alone.
@@ -75,11 +82,17 @@ fn put_nets(nets: &mut [u16; 1024]) {
 }
 
 // As large as a book can be.
-fn all(marks: &[u16; 256], nets: &[u16; 1024], pins: &[u16; 2048]) {
+fn all(
+    rt: &impl Print,
+    marks: &[u16; 256],
+    nets: &[u16; 1024],
+    pins: &[u16; 2048],
+) -> io::Result<()> {
     let mut near = [0xA5u8; 32];
     let mut far = [0xA5u8; 32];
     let mut flow = [77i32; 2048];
     lent::card(
+        rt,
         b"256 modules, 512 nets and 2048 pins",
         marks,
         nets,
@@ -88,10 +101,10 @@ fn all(marks: &[u16; 256], nets: &[u16; 1024], pins: &[u16; 2048]) {
         &mut near,
         &mut far,
         &mut flow,
-    );
+    )
 }
 
-fn full() {
+fn full(rt: &impl Print) -> io::Result<()> {
     let mut marks = [0u16; 256];
     let mut nets = [0u16; 1024];
     let mut pins = [0u16; 2048];
@@ -99,10 +112,10 @@ fn full() {
     marks[255] = 2;
     put_nets(&mut nets);
     put_pins(&mut pins);
-    all(&marks, &nets, &pins);
+    all(rt, &marks, &nets, &pins)
 }
 
-pub fn run() {
-    few_nets();
-    full();
+pub fn run(rt: &impl Print) -> io::Result<()> {
+    few_nets(rt)?;
+    full(rt)
 }

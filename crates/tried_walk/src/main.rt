@@ -9,9 +9,11 @@ mod rounds;
 mod rows;
 mod say;
 
-fn main() {
-    rows::run();
-    rounds::run();
-    gates::run();
-    refusals::run();
+use std::io;
+
+fn main(rt: HostRuntime) -> io::Result<()> {
+    rows::run(&rt)?;
+    rounds::run(&rt)?;
+    gates::run(&rt)?;
+    refusals::run(&rt)
 }
