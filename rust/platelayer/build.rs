@@ -4,7 +4,7 @@ use std::env;
 use std::path::PathBuf;
 
 fn main() {
-    let beside = || PathBuf::from(env!("CARGO_MANIFEST_DIR")).join("../../target/native");
+    let beside = || PathBuf::from(env!("CARGO_MANIFEST_DIR")).join("../../crates/desk/out");
     let folder = env::var_os("PLATELAYER_LIB_DIR").map_or_else(beside, PathBuf::from);
     let library = folder.join("libdesk.a");
     assert!(
