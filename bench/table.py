@@ -1,5 +1,5 @@
 #!/usr/bin/env python3
-"""Writes docs/PERFORMANCE.md and docs/growth.svg from the times on standard input: bench/table.py MACHINE DATE"""
+"""Writes docs/PERFORMANCE.md and docs/growth.svg from the times on standard input: bench/table.py MACHINE DATE KIT"""
 import sys
 from math import log2
 
@@ -79,7 +79,7 @@ def plot(shapes):
     return "\n".join(out + ["</svg>", ""])
 
 
-def main(machine, date):
+def main(machine, date, kit):
     times = read(sys.stdin)
     peers = [who for who in PEERS if all(who in row for row in times["split"].values())]
     ratios = []
@@ -91,6 +91,7 @@ def main(machine, date):
     marks = {
         "@MACHINE@": machine,
         "@DATE@": date,
+        "@KIT@": kit,
         "@SPLITS@": splits(times["split"], peers),
         "@SUMMARY@": f"{sum(r <= 0.5 for r in ratios)} of {len(ratios)} books take at most half the time of the fastest peer; the ratios go from {min(ratios):.2f} to {max(ratios):.2f}.",
         "@WALKS@": walks(times["walk"], times["rounds"]),
