@@ -47,10 +47,8 @@ pub fn put_contents(book: &mut [u8; 8000], modules: usize, nets: usize, pins: us
 pub fn put_modules(book: &mut [u8; 8000], modules: usize)
     requires { modules ≤ 4096 }
 {
-    let mut m = 0;
-    while m < modules {
+    for m in 0..modules {
         put_pair(&mut *book, 32 + 4 * m, 1, 0);
-        m += 1;
     }
     put16(&mut *book, 34, 1);
     put16(&mut *book, 38, 2);
@@ -60,10 +58,8 @@ pub fn put_modules(book: &mut [u8; 8000], modules: usize)
 pub fn put_nets(book: &mut [u8; 8000], start: usize, nets: usize, each: usize)
     requires { (start ≤ 65536) × (nets ≤ 4096) }
 {
-    let mut n = 0;
-    while n < nets {
+    for n in 0..nets {
         put_pair(&mut *book, start + 4 * n, 1, each);
-        n += 1;
     }
 }
 
@@ -71,10 +67,8 @@ pub fn put_nets(book: &mut [u8; 8000], start: usize, nets: usize, each: usize)
 pub fn put_pins(book: &mut [u8; 8000], start: usize, pins: usize, each: usize)
     requires { (start ≤ 65536) × (pins ≤ 4096) × (1 ≤ each) }
 {
-    let mut p = 0;
-    while p < pins {
+    for p in 0..pins {
         put16(&mut *book, start + 2 * p, p % each);
-        p += 1;
     }
 }
 
