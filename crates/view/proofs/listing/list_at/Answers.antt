@@ -4,7 +4,6 @@ use lib.ListN.{length}
 use borrow.Author.Tests.{lt-ltb, le-ltb}
 use Rattle.view.specs.Listing.{room}
 use Rattle.view.proofs.Puts.{put_front}
-use borrow.Author.Rules.{rules}
 use Rattle.view.proofs.listing.list_at.Goals as goal
 
 pub returns-then-out-lt-ROOM : goal.returns-then-out-lt-ROOM

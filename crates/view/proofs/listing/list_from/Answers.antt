@@ -5,21 +5,11 @@ use lib.Seq.{take_all}
 use Rattle.view.specs.Puts.{Listing}
 use Prim.Native.Nat.{ℕ, ◌-◌}
 use mathlib.Core.List.{List}
-use borrow.Author.Rules.{rules}
 use native.Mathlib.Omega.{arith}
 use Rattle.view.proofs.listing.list_from.Goals as goal
 
 listing-as : {s u old new : List ℕ} {r : ℕ} → s ≡ u → Listing s old r new → Listing u old r new
 listing-as {old = old} {new = new} {r = r} e h = subst (λ (z : List ℕ). Listing z old r new) e h
-
-part-list-book-start : tie.Need-slice-bounds-list-book-start
-part-list-book-start c = search rules
-
-part-list-book-end : tie.Need-slice-bounds-list-book-end
-part-list-book-end c = search rules
-
-slice-aggregate-list-book : tie.Need-slice-aggregate-list-book
-slice-aggregate-list-book c = search rules
 
 pub returns-then-at-book : goal.returns-then-at-book
 returns-then-at-book c =

@@ -1,6 +1,5 @@
 -- `view::listing::list_in` meets its contract: what the split answers is the listing. Assumes nothing.
 use Rattle.view.proofs.Splits.{rows_split, listed-price, listed-refused}
-use borrow.Author.Rules.{rules}
 use Rattle.view.proofs.listing.list_in.Goals as goal
 
 pub put_split-requires : goal.put_split-requires

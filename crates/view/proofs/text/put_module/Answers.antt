@@ -3,7 +3,6 @@ use mathlib.Core.Path.{sym, ◌∙◌}
 use Rattle.side.specs.Sides.{side_of}
 use Rattle.view.proofs.Lines.{line-feed, line_on, line-off, line-long}
 use Rattle.view.proofs.Puts.{put_then, put-none}
-use borrow.Author.Rules.{rules}
 use native.Mathlib.Omega.{arith}
 use Rattle.view.proofs.text.put_module.Goals as goal
 
@@ -11,9 +10,6 @@ pub put_decimal-end-requires : goal.put_decimal-end-requires
 put_decimal-end-requires c =
     let a = c.args in
     omega (arith, c.requires.1, line-long (side_of a.side.now) a.m (sym c.inside.ensures ∙ c.if-inside.true))
-
-slice-aggregate-put-text : tie.Need-slice-aggregate-put-text
-slice-aggregate-put-text c = search rules
 
 pub put_text-requires : goal.put_text-requires
 put_text-requires c =

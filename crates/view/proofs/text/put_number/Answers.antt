@@ -2,7 +2,6 @@
 use lib.ListN.{length-append}
 use Rattle.view.specs.Text.{decimal}
 use Rattle.view.proofs.Puts.{put_then}
-use borrow.Author.Rules.{rules}
 use native.Mathlib.Omega.{arith}
 use Rattle.view.proofs.text.put_number.Goals as goal
 

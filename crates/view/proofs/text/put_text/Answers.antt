@@ -3,9 +3,8 @@ use Rattle.book.proofs.Pasted.{paste_more}
 use lib.ListN.{length, get_or, set}
 use mathlib.Core.List.{List}
 use lib.Seq.{paste, paste-zero, length-paste}
-use Prim.Native.Nat.{ℕ, ◌+◌, ◌-◌, ◌≤◌}
+use Prim.Native.Nat.{ℕ, ◌+◌}
 use mathlib.Core.Path.{◌≡◌, ap, ◌∙◌}
-use borrow.Author.Rules.{rules}
 use native.Mathlib.Omega.{arith}
 use Rattle.view.proofs.text.put_text.Goals as goal
 
