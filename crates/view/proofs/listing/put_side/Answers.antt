@@ -7,12 +7,6 @@ use Rattle.view.proofs.Puts.{put_as, put_then}
 use native.Mathlib.Omega.{arith}
 use Rattle.view.proofs.listing.put_side.Goals as goal
 
-pub count-count-requires : goal.count-count-requires
-count-count-requires c = (c.requires.0, c.requires.1)
-
-pub area-area-requires : goal.area-area-requires
-area-area-requires c = c.requires.0
-
 pub put_pair-then-requires : goal.put_pair-then-requires
 unfolding bytes
 put_pair-then-requires c =
@@ -20,9 +14,6 @@ put_pair-then-requires c =
     let n = c.count-count in
     let k = c.area-area in
     omega (arith, p.3, header-room c.args.name.now n.result k.result p.2 n.type_inv k.type_inv)
-
-pub modules-requires : goal.modules-requires
-modules-requires c = c.requires.0.sound.laid_out
 
 pub put_modules-requires : goal.put_modules-requires
 unfolding bytes

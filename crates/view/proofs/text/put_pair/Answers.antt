@@ -4,16 +4,6 @@ use Rattle.view.proofs.Puts.{put_then}
 use native.Mathlib.Omega.{arith}
 use Rattle.view.proofs.text.put_pair.Goals as goal
 
-pub put_number-then-requires : goal.put_number-then-requires
-put_number-then-requires c = let a = c.args in
-    omega (arith, c.requires, pair-long a.first.now a.n a.second.now a.k)
-
-pub put_number-end-requires : goal.put_number-end-requires
-put_number-end-requires c =
-    let a = c.args in
-    let u = c.put_number-then in
-    omega (arith, c.requires, pair-long a.first.now a.n a.second.now a.k, u.auto.out, u.ensures.after)
-
 pub put_text-requires : goal.put_text-requires
 put_text-requires c =
     let a = c.args in
