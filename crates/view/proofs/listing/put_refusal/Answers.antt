@@ -3,22 +3,15 @@ use Rattle.view.proofs.Puts.{put_as}
 use Rattle.view.specs.Text.{bytes}
 use Rattle.view.proofs.Lines.{refused-text}
 use Rattle.view.proofs.Rooms.{refusal-room}
-use borrow.Author.Rules.{rules}
 use native.Mathlib.Omega.{arith}
 use Rattle.view.proofs.listing.put_refusal.Goals as goal
-
-slice-aggregate-put-pair : tie.Need-slice-aggregate-put-pair
-slice-aggregate-put-pair c = search rules
-
-slice-aggregate-put-pair-2 : tie.Need-slice-aggregate-put-pair-2
-slice-aggregate-put-pair-2 c = search rules
 
 pub put_pair-requires : goal.put_pair-requires
 unfolding bytes
 put_pair-requires c =
     let n = c.number-number in
     let p = c.place-place in
-    omega (arith, c.requires, refusal-room n.result p.result n.type-inv p.type-inv)
+    omega (arith, c.requires, refusal-room n.result p.result n.type_inv p.type_inv)
 
 pub returns : goal.returns
 unfolding bytes

@@ -4,18 +4,8 @@ use Rattle.view.specs.Text.{bytes}
 use Rattle.view.proofs.Lines.{side-text}
 use Rattle.view.proofs.Rooms.{header-room, lines-room}
 use Rattle.view.proofs.Puts.{put_as, put_then}
-use borrow.Author.Rules.{rules}
 use native.Mathlib.Omega.{arith}
 use Rattle.view.proofs.listing.put_side.Goals as goal
-
-pub count-count-requires : goal.count-count-requires
-count-count-requires c = (c.requires.0, c.requires.1)
-
-pub area-area-requires : goal.area-area-requires
-area-area-requires c = c.requires.0
-
-slice-aggregate-put-pair : tie.Need-slice-aggregate-put-pair
-slice-aggregate-put-pair c = search rules
 
 pub put_pair-then-requires : goal.put_pair-then-requires
 unfolding bytes
@@ -23,10 +13,7 @@ put_pair-then-requires c =
     let p = c.requires in
     let n = c.count-count in
     let k = c.area-area in
-    omega (arith, p.3, header-room c.args.name.now n.result k.result p.2 n.type-inv k.type-inv)
-
-pub modules-requires : goal.modules-requires
-modules-requires c = c.requires.0.sound.laid_out
+    omega (arith, p.3, header-room c.args.name.now n.result k.result p.2 n.type_inv k.type_inv)
 
 pub put_modules-requires : goal.put_modules-requires
 unfolding bytes
@@ -38,7 +25,7 @@ put_modules-requires c =
     let m = c.modules in
     let u = c.put_pair-then in
     let few = p.0.sound.few-modules in
-    let head = header-room a.name.now n.result k.result p.2 n.type-inv k.type-inv in
+    let head = header-room a.name.now n.result k.result p.2 n.type_inv k.type_inv in
     let lines = lines-room (side_of a.side.now) m.result (omega (arith, m.ensures, few)) in
     (omega (arith, m.ensures, p.0.enough), omega (arith, p.3, head, lines, few, m.ensures, u.ensures.after, u.auto.out))
 
@@ -54,7 +41,7 @@ returns c =
     let v = c.put_modules.ensures in
     let x = side_of a.side.now in
     let few = p.0.sound.few-modules in
-    let head = header-room a.name.now n.result k.result p.2 n.type-inv k.type-inv in
+    let head = header-room a.name.now n.result k.result p.2 n.type_inv k.type_inv in
     let lines = lines-room x m.result (omega (arith, m.ensures, few)) in
     let text = side-text a.name.now a.book.now x n.result k.result m.result n.ensures k.ensures.0 m.ensures in
     (put_as text (put_then (omega (arith, p.3, head, u.after)) u v), omega (arith, head, lines, few, m.ensures, u.after, v.after))

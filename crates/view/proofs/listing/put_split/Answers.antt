@@ -2,29 +2,19 @@
 use Rattle.view.specs.Text.{bytes, split_text}
 use Rattle.view.proofs.Rooms.{price-room}
 use Rattle.view.proofs.Puts.{put_then}
-use borrow.Author.Rules.{rules}
 use native.Mathlib.Omega.{arith}
 use Rattle.view.proofs.listing.put_split.Goals as goal
-
-slice-aggregate-put-number : tie.Need-slice-aggregate-put-number
-slice-aggregate-put-number c = search rules
 
 pub put_number-end-requires : goal.put_number-end-requires
 unfolding bytes
 put_number-end-requires c =
     omega (arith, c.requires.1, price-room c.args.price c.ranges.price.fits)
 
-slice-aggregate-put-text : tie.Need-slice-aggregate-put-text
-slice-aggregate-put-text c = search rules
-
 pub put_text-first-requires : goal.put_text-first-requires
 unfolding bytes
 put_text-first-requires c =
     let u = c.put_number-end in
     omega (arith, c.requires.1, price-room c.args.price c.ranges.price.fits, u.ensures.after, u.auto.out)
-
-slice-aggregate-put-side : tie.Need-slice-aggregate-put-side
-slice-aggregate-put-side c = search rules
 
 pub put_side-second-requires : goal.put_side-second-requires
 unfolding bytes
@@ -34,9 +24,6 @@ put_side-second-requires c =
     let v = c.put_text-first in
     let head = price-room c.args.price c.ranges.price.fits in
     (p.0.near-lent, p.0.near-spare, omega arith, omega (arith, p.1, head, u.ensures.after, v.ensures.after, u.auto.out, v.auto.out))
-
-slice-aggregate-put-side-2 : tie.Need-slice-aggregate-put-side-2
-slice-aggregate-put-side-2 c = search rules
 
 pub put_side-requires : goal.put_side-requires
 unfolding bytes
@@ -54,6 +41,6 @@ returns c =
     let p = c.requires.1 in
     let u = c.put_number-end.ensures in
     let v = c.put_text-first.ensures in
-    let w = c.put_side.ensures in
+    let w = c.put_side-second.ensures in
     let head = price-room c.args.price c.ranges.price.fits in
     put_then (omega (arith, p, head, u.after, v.after, w.1)) (put_then (omega (arith, p, head, u.after, v.after)) (put_then (omega (arith, p, head, u.after)) u v) w.0) c.put_side.ensures.0

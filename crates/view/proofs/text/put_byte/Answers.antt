@@ -1,6 +1,5 @@
 -- `view::text::put_byte` meets its contract. Assumes nothing.
 use Rattle.view.proofs.Puts.{put_one}
-use borrow.Author.Rules.{rules}
 use Rattle.view.proofs.text.put_byte.Goals as goal
 
 pub returns : goal.returns

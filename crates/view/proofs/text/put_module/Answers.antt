@@ -1,19 +1,10 @@
 -- `view::text::put_module` meets its contract: a line where the module is on the side, and else nothing. Assumes nothing.
 use mathlib.Core.Path.{sym, ◌∙◌}
 use Rattle.side.specs.Sides.{side_of}
-use Rattle.view.proofs.Lines.{line-feed, line_on, line-off, line-long}
-use Rattle.view.proofs.Puts.{put_then, put-none}
-use borrow.Author.Rules.{rules}
+use Rattle.view.proofs.Lines.{line-feed, line_on, line-long}
+use Rattle.view.proofs.Puts.{put_then}
 use native.Mathlib.Omega.{arith}
 use Rattle.view.proofs.text.put_module.Goals as goal
-
-pub put_decimal-end-requires : goal.put_decimal-end-requires
-put_decimal-end-requires c =
-    let a = c.args in
-    omega (arith, c.requires.1, line-long (side_of a.side.now) a.m (sym c.inside.ensures ∙ c.if-inside.true))
-
-slice-aggregate-put-text : tie.Need-slice-aggregate-put-text
-slice-aggregate-put-text c = search rules
 
 pub put_text-requires : goal.put_text-requires
 put_text-requires c =
@@ -28,7 +19,3 @@ returns-then-inside c =
     let on = sym c.inside.ensures ∙ c.if-inside.true in
     let u = c.put_decimal-end.ensures in
     rw (line_on x a.m on, line-feed) (put_then (omega (arith, c.requires.1, u.after, line-long x a.m on)) u c.put_text.ensures)
-
-pub returns-else-inside : goal.returns-else-inside
-returns-else-inside c = let a = c.args in
-    rw (line-off (side_of a.side.now) a.m (sym c.inside.ensures ∙ c.if-inside.false)) (put-none a.at a.out.now)

@@ -1,12 +1,9 @@
 -- `view::text::put_modules` meets its contract: the lines of the modules below `m` stand. Assumes nothing.
-use Prim.Native.Nat.{ℕ, ◌+◌, ◌-◌, ◌≤◌}
-use mathlib.Core.Path.{◌≡◌, subst}
+use Prim.Native.Nat.{◌+◌}
 use Rattle.side.specs.Sides.{side_of}
-use Rattle.view.specs.Puts.{Put}
 use Rattle.view.specs.Text.{module_lines}
 use Rattle.view.proofs.Lines.{lines_next, lines_long, lines-grow}
 use Rattle.view.proofs.Puts.{put_then, put-none, put-long}
-use borrow.Author.Rules.{rules}
 use native.Mathlib.Omega.{arith}
 use Rattle.view.proofs.text.put_modules.Goals as goal
 
@@ -32,16 +29,3 @@ loop-m-preserved c =
     let long = lines_long x l.m in
     let grow = lines-grow x (l.m + 1) a.count (omega arith) in
     (omega arith, rw (lines_next x l.m) (put_then (omega (arith, c.requires.1, l.invariant.1.after, long, grow)) l.invariant.1 c.put_module-next.ensures))
-
-pub shape_of-out : goal.shape_of-out
-shape_of-out c =
-    let a = c.args in
-    let l = c.loop-m in
-    put-long (omega (arith, c.requires.1, lines-grow (side_of a.side.now) l.m a.count l.invariant.0)) l.invariant.1
-
-pub returns : goal.returns
-returns c =
-    let a = c.args in
-    let l = c.loop-m in
-    let e : l.m ≡ a.count = omega (arith, l.invariant.0) in
-    subst (λ (k : ℕ). Put (module_lines (side_of a.side.now) k) a.at a.out.now l.next l.out) e l.invariant.1

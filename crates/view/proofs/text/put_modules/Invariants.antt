@@ -1,13 +1,8 @@
 -- `view::text::put_modules` meets its contract: the lines of the modules below `m` stand. Assumes nothing.
-use Prim.Native.Nat.{ℕ, ◌+◌, ◌-◌, ◌≤◌}
-use mathlib.Core.Path.{◌≡◌, subst}
+use Prim.Native.Nat.{◌-◌, ◌≤◌}
 use Rattle.side.specs.Sides.{side_of}
 use Rattle.view.specs.Puts.{Put}
 use Rattle.view.specs.Text.{module_lines}
-use Rattle.view.proofs.Lines.{lines_next, lines_long, lines-grow}
-use Rattle.view.proofs.Puts.{put_then, put-none, put-long}
-use borrow.Author.Rules.{rules}
-use native.Mathlib.Omega.{arith}
 use Rattle.view.proofs.text.put_modules.Given as goal
 
 abbrev pub invariant-loop-m : goal.invariant-loop-m

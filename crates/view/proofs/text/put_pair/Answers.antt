@@ -1,22 +1,8 @@
 -- `view::text::put_pair` meets its contract: a word and a number, twice, and a line feed. Assumes nothing.
 use Rattle.view.proofs.Lines.{line-feed, pair-long}
 use Rattle.view.proofs.Puts.{put_then}
-use borrow.Author.Rules.{rules}
 use native.Mathlib.Omega.{arith}
 use Rattle.view.proofs.text.put_pair.Goals as goal
-
-pub put_number-then-requires : goal.put_number-then-requires
-put_number-then-requires c = let a = c.args in
-    omega (arith, c.requires, pair-long a.first.now a.n a.second.now a.k)
-
-pub put_number-end-requires : goal.put_number-end-requires
-put_number-end-requires c =
-    let a = c.args in
-    let u = c.put_number-then in
-    omega (arith, c.requires, pair-long a.first.now a.n a.second.now a.k, u.auto.out, u.ensures.after)
-
-slice-aggregate-put-text : tie.Need-slice-aggregate-put-text
-slice-aggregate-put-text c = search rules
 
 pub put_text-requires : goal.put_text-requires
 put_text-requires c =

@@ -1,12 +1,8 @@
 -- `view::text::put_text` meets its contract: the bytes before `i` stand. Assumes nothing.
-use Rattle.book.proofs.Pasted.{paste_more}
-use lib.ListN.{length, get_or, set}
-use mathlib.Core.List.{List}
-use lib.Seq.{paste, paste-zero, length-paste}
-use Prim.Native.Nat.{ℕ, ◌+◌, ◌-◌, ◌≤◌}
-use mathlib.Core.Path.{◌≡◌, ap, ◌∙◌}
-use borrow.Author.Rules.{rules}
-use native.Mathlib.Omega.{arith}
+use lib.ListN.{length}
+use lib.Seq.{paste}
+use Prim.Native.Nat.{◌-◌, ◌≤◌}
+use mathlib.Core.Path.{◌≡◌}
 use Rattle.view.proofs.text.put_text.Given as goal
 
 abbrev pub invariant-loop-i : goal.invariant-loop-i
