@@ -15,24 +15,20 @@ pub struct Ask {
 
 // Is a side marked from a byte on?
 fn side_kept(side: &[u8], start: usize) -> bool {
-    let mut i = start;
-    while i < side.len() {
+    for i in start..side.len() {
         if side[i] != 0xA5 {
             return false;
         }
-        i += 1;
     }
     true
 }
 
 // Is a flow marked from a number on?
 fn flow_kept(flow: &[i32], start: usize) -> bool {
-    let mut i = start;
-    while i < flow.len() {
+    for i in start..flow.len() {
         if flow[i] != 77 {
             return false;
         }
-        i += 1;
     }
     true
 }

@@ -52,10 +52,8 @@ fn put_module(book: &mut [u8; 8000], m: usize, mark: u16) {
 
 // Modules of area 1 with these marks.
 fn put_modules(book: &mut [u8; 8000], marks: &[u16]) {
-    let mut m = 0;
-    while m < marks.len() {
+    for m in 0..marks.len() {
         put_module(&mut *book, m, marks[m]);
-        m += 1;
     }
 }
 
@@ -70,10 +68,8 @@ fn put_nth(book: &mut [u8; 8000], at: usize, i: usize, x: u16) {
 
 // Numbers one after the other, from an offset on.
 fn put_all(book: &mut [u8; 8000], at: usize, numbers: &[u16]) {
-    let mut i = 0;
-    while i < numbers.len() {
+    for i in 0..numbers.len() {
         put_nth(&mut *book, at, i, numbers[i]);
-        i += 1;
     }
 }
 

@@ -64,20 +64,16 @@ fn module_of(p: usize) -> u16 {
 }
 
 fn put_pins(pins: &mut [u16; 2048]) {
-    let mut p = 0;
-    while p < 2048 {
+    for p in 0..2048 {
         pins[p] = module_of(p);
-        p += 1;
     }
 }
 
 // Nets of weight 65535 and four pins.
 fn put_nets(nets: &mut [u16; 1024]) {
-    let mut n = 0;
-    while n < 512 {
+    for n in 0..512 {
         nets[2 * n] = 65535;
         nets[2 * n + 1] = 4;
-        n += 1;
     }
 }
 

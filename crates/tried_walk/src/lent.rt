@@ -8,12 +8,10 @@ use walk::Answered;
 
 // Is a buffer marked from a byte on?
 fn kept(bytes: &[u8], start: usize) -> bool {
-    let mut i = start;
-    while i < bytes.len() {
+    for i in start..bytes.len() {
         if bytes[i] != 0xA5 {
             return false;
         }
-        i += 1;
     }
     true
 }

@@ -49,10 +49,8 @@ fn put_nth(book: &mut [u8; 400], at: usize, i: usize, x: u16) {
 
 // Numbers one after the other, from an offset on.
 fn put_all(book: &mut [u8; 400], at: usize, numbers: &[u16]) {
-    let mut i = 0;
-    while i < numbers.len() {
+    for i in 0..numbers.len() {
         put_nth(&mut *book, at, i, numbers[i]);
-        i += 1;
     }
 }
 
