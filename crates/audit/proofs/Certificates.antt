@@ -9,7 +9,7 @@ use lib.IntN.{ℤ, pos, negsuc}
 use lib.Signed.{◌≤ℤ◌}
 use Rattle.line.specs.Card.{Card, Side, price, Separates, Cheapest}
 use Rattle.line.specs.Flow.{value}
-use Rattle.line.proofs.Duality.{Valid, weak-duality}
+use Rattle.line.proofs.Duality.{Valid, weak_duality}
 use Rattle.audit.specs.Certificate.{Certified, Greatest}
 
 -- an integer no larger than n, and no smaller, is n
@@ -19,28 +19,28 @@ meets (negsuc m) n h k = absurd k.le
 
 module _ (c : Card) (valid : Valid c) (xs : List ℤ) (s : Side) (p : ℕ) (q : Certified c xs s p) where
   -- every side that separates costs the price or more
-  pub certified-least : (t : Side) → Separates c t → p ≤ price c.nets t
-  certified-least t u = let w : pos p ≤ℤ pos (price c.nets t) = rw q.value-is at (weak-duality c valid xs q.fair t u) in leb→le p (price c.nets t) w.le
+  pub certified_least : (t : Side) → Separates c t → p ≤ price c.nets t
+  certified_least t u = let w : pos p ≤ℤ pos (price c.nets t) = rw q.value_is at (weak_duality c valid xs q.fair t u) in leb→le p (price c.nets t) w.le
 
   -- the side is a cheapest one
-  pub certified-cheapest : Cheapest c s
-  certified-cheapest = record { separates = q.separates; least = λ t u. rw q.price-is (certified-least t u) }
+  pub certified_cheapest : Cheapest c s
+  certified_cheapest = record { separates = q.separates; least = λ t u. rw q.price_is (certified_least t u) }
 
   -- no fair flow has a larger value
-  pub certified-greatest : Greatest c xs
-  certified-greatest = record { fair = q.fair; most = λ zs f. rw q.value-is (rw q.price-is at (weak-duality c valid zs f s q.separates)) }
+  pub certified_greatest : Greatest c xs
+  certified_greatest = record { fair = q.fair; most = λ zs f. rw q.value_is (rw q.price_is at (weak_duality c valid zs f s q.separates)) }
 
   -- every cheapest side with every greatest flow passes too, with this price and no other
-  pub certified-all : (zs : List ℤ) → Greatest c zs → (t : Side) → Cheapest c t → Certified c zs t p
-  certified-all zs g t u = record {
+  pub certified_all : (zs : List ℤ) → Greatest c zs → (t : Side) → Cheapest c t → Certified c zs t p
+  certified_all zs g t u = record {
     fair = g.fair;
     separates = u.separates;
-    value-is = meets (value c zs) p (rw q.value-is at (certified-greatest.most zs g.fair)) (rw q.value-is at (g.most xs q.fair));
-    price-is = le_antisymm (rw q.price-is at (u.least s q.separates)) (certified-least t u.separates);
+    value_is = meets (value c zs) p (rw q.value_is at (certified_greatest.most zs g.fair)) (rw q.value_is at (g.most xs q.fair));
+    price_is = le_antisymm (rw q.price_is at (u.least s q.separates)) (certified_least t u.separates);
   }
 
 -- two that pass have one price
-pub one-price : (c : Card) → Valid c → (xs zs : List ℤ) (s t : Side) (p r : ℕ) → Certified c xs s p → Certified c zs t r → p ≡ r
-one-price c valid xs zs s t p r a b =
-    let d = certified-all c valid xs s p a zs (certified-greatest c valid zs t r b) t (certified-cheapest c valid zs t r b) in
-    sym d.price-is ∙ b.price-is
+pub one_price : (c : Card) → Valid c → (xs zs : List ℤ) (s t : Side) (p r : ℕ) → Certified c xs s p → Certified c zs t r → p ≡ r
+one_price c valid xs zs s t p r a b =
+    let d = certified_all c valid xs s p a zs (certified_greatest c valid zs t r b) t (certified_cheapest c valid zs t r b) in
+    sym d.price_is ∙ b.price_is

@@ -12,7 +12,7 @@ use mir.Syntax.{w32, w64}
 use mir.Val.{to_z, of_z, SFits, Fits}
 use mir.Facts.{to_z-of_z, sfits_widen}
 use Rattle.line.specs.Flow.{sent, taken}
-use Rattle.line.proofs.Turn.{neg-sent, neg-taken}
+use Rattle.line.proofs.Turn.{neg_sent, neg_taken}
 use Rattle.audit.specs.Rules.{most_sent}
 
 -- ---- a number as its bits
@@ -34,34 +34,34 @@ widens z f = subst (SFits w64) (sym (back z f)) (sfits_widen {w = w32} {w' = w64
 
 -- ---- how large
 
-pub sent-most : (z : ℤ) → SFits w32 z → sent z ≤ most_sent
-sent-most (pos n) f = let h : n < 2147483648 = f.sfits in omega arith
-sent-most (negsuc n) f = omega arith
+pub sent_most : (z : ℤ) → SFits w32 z → sent z ≤ most_sent
+sent_most (pos n) f = let h : n < 2147483648 = f.sfits in omega arith
+sent_most (negsuc n) f = omega arith
 
-pub taken-most : (z : ℤ) → SFits w32 z → taken z ≤ most_sent
-taken-most (pos n) f = omega arith
-taken-most (negsuc n) f = let h : n < 2147483648 = f.sfits in omega arith
+pub taken_most : (z : ℤ) → SFits w32 z → taken z ≤ most_sent
+taken_most (pos n) f = omega arith
+taken_most (negsuc n) f = let h : n < 2147483648 = f.sfits in omega arith
 
-fits-64 : (z : ℤ) → sent z ≤ most_sent → taken z ≤ most_sent → SFits w64 z
-fits-64 (pos n) h k = record { sfits = let q : n < 9223372036854775808 = omega arith in q }
-fits-64 (negsuc n) h k = record { sfits = let q : n < 9223372036854775808 = omega arith in q }
+fits_64 : (z : ℤ) → sent z ≤ most_sent → taken z ≤ most_sent → SFits w64 z
+fits_64 (pos n) h k = record { sfits = let q : n < 9223372036854775808 = omega arith in q }
+fits_64 (negsuc n) h k = record { sfits = let q : n < 9223372036854775808 = omega arith in q }
 
 -- ---- 0 less a number sends what it takes
 
 less : (z : ℤ) → pos 0 -ℤ z ≡ neg_ℤ z
 less z = +ℤ_idl (neg_ℤ z)
 
-neg-fits : (z : ℤ) → SFits w32 z → SFits w64 (neg_ℤ z)
-neg-fits z f = fits-64 (neg_ℤ z) (rw (neg-sent z) (taken-most z f)) (rw (neg-taken z) (sent-most z f))
+neg_fits : (z : ℤ) → SFits w32 z → SFits w64 (neg_ℤ z)
+neg_fits z f = fits_64 (neg_ℤ z) (rw (neg_sent z) (taken_most z f)) (rw (neg_taken z) (sent_most z f))
 
 turned : (z : ℤ) → SFits w32 z → pos 0 -ℤ bits64 (bits32 z) ≡ neg_ℤ z
 turned z f = ap (λ (y : ℤ). pos 0 -ℤ y) (widened z f) ∙ less z
 
-pub turn-fits : (z : ℤ) → SFits w32 z → SFits w64 (pos 0 -ℤ bits64 (bits32 z))
-turn-fits z f = subst (SFits w64) (sym (turned z f)) (neg-fits z f)
+pub turn_fits : (z : ℤ) → SFits w32 z → SFits w64 (pos 0 -ℤ bits64 (bits32 z))
+turn_fits z f = subst (SFits w64) (sym (turned z f)) (neg_fits z f)
 
-pub turn-sent : (z : ℤ) → SFits w32 z → sent (bits64 (pos 0 -ℤ bits64 (bits32 z))) ≡ taken z
-turn-sent z f = ap (λ (y : ℤ). sent (bits64 y)) (turned z f) ∙ ap sent (to_z-of_z {w = w64} {z = neg_ℤ z} (neg-fits z f)) ∙ neg-sent z
+pub turn_sent : (z : ℤ) → SFits w32 z → sent (bits64 (pos 0 -ℤ bits64 (bits32 z))) ≡ taken z
+turn_sent z f = ap (λ (y : ℤ). sent (bits64 y)) (turned z f) ∙ ap sent (to_z-of_z {w = w64} {z = neg_ℤ z} (neg_fits z f)) ∙ neg_sent z
 
 -- ---- a cast of a number above 0
 
@@ -76,12 +76,12 @@ sends : (z : ℤ) → lt_z (pos 0) z ≡ true → nat_abs z ≡ sent z
 sends (pos n) t = refl
 sends (negsuc n) t = absurd (true≢false (sym t))
 
-pub cast-sent : (z : ℤ) → SFits w64 z → lt_z (pos 0) (bits64 z) ≡ true → nat_abs (bits64 z) ≡ sent z
-cast-sent z f t = let e = to_z-of_z {w = w64} {z = z} f in rw e (sends z (rw e at t))
+pub cast_sent : (z : ℤ) → SFits w64 z → lt_z (pos 0) (bits64 z) ≡ true → nat_abs (bits64 z) ≡ sent z
+cast_sent z f t = let e = to_z-of_z {w = w64} {z = z} f in rw e (sends z (rw e at t))
 
 none : (z : ℤ) → lt_z (pos 0) z ≡ false → 0 ≡ sent z
 none (pos n) t = let h : n ≤ 0 = ltb-false 0 n t in omega arith
 none (negsuc n) t = refl
 
-pub none-sent : (z : ℤ) → SFits w64 z → lt_z (pos 0) (bits64 z) ≡ false → 0 ≡ sent z
-none-sent z f t = let e = to_z-of_z {w = w64} {z = z} f in none z (rw e at t)
+pub none_sent : (z : ℤ) → SFits w64 z → lt_z (pos 0) (bits64 z) ≡ false → 0 ≡ sent z
+none_sent z f t = let e = to_z-of_z {w = w64} {z = z} f in none z (rw e at t)

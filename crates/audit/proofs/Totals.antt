@@ -11,14 +11,14 @@ use lib.Dec.{eqb}
 use Rattle.line.specs.Card.{Alike}
 use Rattle.audit.specs.Rules.{sum_to}
 
-pub sum-none : (f : ℕ → ℕ) → 0 ≡ sum_to f 0
+pub sum_none : (f : ℕ → ℕ) → 0 ≡ sum_to f 0
 unfolding sum_to
-sum-none f = refl
+sum_none f = refl
 
 -- one more, as a loop goes
-pub sum-next : (f : ℕ → ℕ) (n : ℕ) → sum_to f (n + 1) ≡ sum_to f n + f n
+pub sum_next : (f : ℕ → ℕ) (n : ℕ) → sum_to f (n + 1) ≡ sum_to f n + f n
 unfolding sum_to
-sum-next f n = rw add-one
+sum_next f n = rw add-one
 
 pub sum_same : (f g : ℕ → ℕ) (n : ℕ) → Alike n f g → sum_to f n ≡ sum_to g n
 unfolding sum_to
@@ -36,10 +36,10 @@ sum-add f g zero = refl
 sum-add f g (suc n) = omega (arith, sum-add f g n)
 
 -- the one term at k
-sum-only : (w : ℕ → ℕ) (k n : ℕ) → k < n → sum_to (λ m. cond (eqb k m) (w m) 0) n ≡ w k
+sum_only : (w : ℕ → ℕ) (k n : ℕ) → k < n → sum_to (λ m. cond (eqb k m) (w m) 0) n ≡ w k
 unfolding sum_to
-sum-only w k zero l = absurd (not-suc-le-zero l)
-sum-only w k (suc n) l = go (ℕ_discrete k n) (sum-only w k n)
+sum_only w k zero l = absurd (not-suc-le-zero l)
+sum_only w k (suc n) l = go (ℕ_discrete k n) (sum_only w k n)
   where
     go : Dec (k ≡ n) → (k < n → sum_to (λ m. cond (eqb k m) (w m) 0) n ≡ w k) → sum_to (λ m. cond (eqb k m) (w m) 0) n + cond (eqb k n) (w n) 0 ≡ w k
     go (yes e) r =
@@ -64,14 +64,14 @@ module _ (a : ℕ → Bool) (q v : ℕ → ℕ) (n : ℕ) where
   parted false x y true = refl
   parted false x y false = refl
 
-  pub sum-swap : (k : ℕ) → ((p : ℕ) → p < k → q p < n) → sum_to (λ m. cond (a m) (counted k m) 0) n ≡ sum_to (λ p. cond (a (q p)) (v p) 0) k
+  pub sum_swap : (k : ℕ) → ((p : ℕ) → p < k → q p < n) → sum_to (λ m. cond (a m) (counted k m) 0) n ≡ sum_to (λ p. cond (a (q p)) (v p) 0) k
   unfolding sum_to
-  sum-swap zero l = sum_zeros (λ m. cond (a m) 0 0) n (λ m h. none (a m))
-  sum-swap (suc k) l =
+  sum_swap zero l = sum_zeros (λ m. cond (a m) 0 0) n (λ m h. none (a m))
+  sum_swap (suc k) l =
       let split = sum_same (λ m. cond (a m) (counted k m + cond (eqb (q k) m) (v k) 0) 0) (λ m. cond (a m) (counted k m) 0 + cond (eqb (q k) m) (cond (a m) (v k) 0) 0) n (λ m h. parted (a m) (counted k m) (v k) (eqb (q k) m)) in
       let both = sum-add (λ m. cond (a m) (counted k m) 0) (λ m. cond (eqb (q k) m) (cond (a m) (v k) 0) 0) n in
-      let here = sum-only (λ m. cond (a m) (v k) 0) (q k) n (l k (omega arith)) in
-      omega (arith, split, both, here, sum-swap k (λ p h. l p (omega arith)))
+      let here = sum_only (λ m. cond (a m) (v k) 0) (q k) n (l k (omega arith)) in
+      omega (arith, split, both, here, sum_swap k (λ p h. l p (omega arith)))
 
 -- from the first on, and not up to the last
 pub sum_first : (f : ℕ → ℕ) (n : ℕ) → sum_to f (suc n) ≡ f 0 + sum_to (λ i. f (suc i)) n

@@ -16,8 +16,8 @@ use Rattle.line.specs.Flow.{sent, taken, only, meters}
 use Rattle.book.specs.Format.{modules, nets, pins, mark, weight, pin_count, pin, first_pin}
 use Rattle.book.specs.Sound.{Sound}
 use Rattle.book.specs.Cards.{card_of}
-use Rattle.book.proofs.Firsts.{lowest-same}
-use Rattle.book.proofs.CardLaws.{pin-before}
+use Rattle.book.proofs.Firsts.{lowest_same}
+use Rattle.book.proofs.CardLaws.{pin_before}
 use Rattle.book.specs.declared.Reading.{Reading}
 use Rattle.book.specs.declared.Reading.TheVariants as reading
 use Rattle.book.specs.declared.Refusal.TheVariants.{Buffer}
@@ -28,7 +28,7 @@ use Rattle.side.specs.declared.Priced.TheVariants as prices
 use Rattle.side.specs.Sides.{bytes_for}
 use Rattle.side.specs.Given.{Reads, is_short, is_good, given_sound, given}
 use Rattle.side.specs.Prices.{priced}
-use Rattle.side.proofs.Prices.{price-unread}
+use Rattle.side.proofs.Prices.{price_unread}
 use Rattle.audit.specs.declared.Ruled.{Ruled}
 use Rattle.audit.specs.declared.Checked.{Checked}
 use Rattle.audit.specs.declared.Checked.TheVariants.{Refused}
@@ -37,45 +37,45 @@ use Rattle.audit.specs.Rules.{sum_to, needed, bad_net_flow, check11, bad_module_
 use Rattle.audit.proofs.Totals.{sum_same}
 
 -- the needed part of it is the whole needed part
-pub needed-needed : (s : List ℕ) (xs : List ℤ) → needed s (needed s xs) ≡ needed s xs
-needed-needed s xs = take-take (pins s) (pins s) xs (le_refl _)
+pub needed_needed : (s : List ℕ) (xs : List ℤ) → needed s (needed s xs) ≡ needed s xs
+needed_needed s xs = take-take (pins s) (pins s) xs (le_refl _)
 
 module _ (s : List ℕ) (h : Sound s) (xs ys : List ℤ) (e : needed s xs ≡ needed s ys) where
   one_number : (p : ℕ) → p < pins s → get_or xs p (pos 0) ≡ get_or ys p (pos 0)
   one_number p l = sym (get_or-take (pins s) xs p (pos 0) l) ∙ ap (λ (zs : List ℤ). get_or zs p (pos 0)) e ∙ get_or-take (pins s) ys p (pos 0) l
 
   module _ (f : ℤ → ℕ) where
-    one-net : (n : ℕ) → n < nets s → sum_to (λ j. f (get_or xs (first_pin s n + j) (pos 0))) (pin_count s n) ≡ sum_to (λ j. f (get_or ys (first_pin s n + j) (pos 0))) (pin_count s n)
-    one-net n u =
+    one_net : (n : ℕ) → n < nets s → sum_to (λ j. f (get_or xs (first_pin s n + j) (pos 0))) (pin_count s n) ≡ sum_to (λ j. f (get_or ys (first_pin s n + j) (pos 0))) (pin_count s n)
+    one_net n u =
         sum_same (λ j. f (get_or xs (first_pin s n + j) (pos 0))) (λ j. f (get_or ys (first_pin s n + j) (pos 0))) (pin_count s n)
-        (λ j l. ap f (one_number (first_pin s n + j) (omega (arith, pin-before s n (nets s) j u l, h.pins-all))))
+        (λ j l. ap f (one_number (first_pin s n + j) (omega (arith, pin_before s n (nets s) j u l, h.pins_all))))
 
     one-sum : (x : Side) → sum_to (λ p. cond (x (pin s p)) (f (get_or xs p (pos 0))) 0) (pins s) ≡ sum_to (λ p. cond (x (pin s p)) (f (get_or ys p (pos 0))) 0) (pins s)
     one-sum x =
         sum_same (λ p. cond (x (pin s p)) (f (get_or xs p (pos 0))) 0) (λ p. cond (x (pin s p)) (f (get_or ys p (pos 0))) 0) (pins s)
         (λ p l. ap (λ (z : ℤ). cond (x (pin s p)) (f z) 0) (one_number p l))
 
-  pub one-check11 : check11 s xs ≡ check11 s ys
+  pub one_check11 : check11 s xs ≡ check11 s ys
   unfolding check11 bad_net_flow
-  one-check11 =
-      lowest-same (bad_net_flow s xs) (bad_net_flow s ys) (nets s)
-      (λ n u. ap₂ (λ (a b : ℕ). not (eqb a b) || ltb (weight s n) a) (one-net sent n u) (one-net taken n u))
+  one_check11 =
+      lowest_same (bad_net_flow s xs) (bad_net_flow s ys) (nets s)
+      (λ n u. ap₂ (λ (a b : ℕ). not (eqb a b) || ltb (weight s n) a) (one_net sent n u) (one_net taken n u))
 
-  pub one-check12 : check12 s xs ≡ check12 s ys
+  pub one_check12 : check12 s xs ≡ check12 s ys
   unfolding check12 bad_module_flow
-  one-check12 =
-      lowest-same (bad_module_flow s xs) (bad_module_flow s ys) (modules s)
+  one_check12 =
+      lowest_same (bad_module_flow s xs) (bad_module_flow s ys) (modules s)
       (λ m u. ap₂ (λ (a b : ℕ). eqb (mark s m) 0 && not (eqb a b)) (one-sum sent (only m)) (one-sum taken (only m)))
 
-  pub one-ruled : ruled_of s xs ≡ ruled_of s ys
+  pub one_ruled : ruled_of s xs ≡ ruled_of s ys
   unfolding ruled_of balance_of
-  one-ruled = rw (one-check11, one-check12, one-sum sent (meters (card_of s)), one-sum taken (meters (card_of s)))
+  one_ruled = rw (one_check11, one_check12, one-sum sent (meters (card_of s)), one-sum taken (meters (card_of s)))
 
 -- ---- the call
 
 -- a list is as short as its first n elements are
-short-take : (n : ℕ) (xs : List ℤ) → ltb (length xs) n ≡ ltb (length (take n xs)) n
-short-take n xs = go (leb n (length xs)) refl
+short_take : (n : ℕ) (xs : List ℤ) → ltb (length xs) n ≡ ltb (length (take n xs)) n
+short_take n xs = go (leb n (length xs)) refl
   where
     go : (b : Bool) → leb n (length xs) ≡ b → ltb (length xs) n ≡ ltb (length (take n xs)) n
     go true e =
@@ -83,9 +83,9 @@ short-take n xs = go (leb n (length xs)) refl
         le-ltb (length xs) n h ∙ sym (le-ltb (length (take n xs)) n (omega (arith, length-take-le n xs h)))
     go false e = let h = leb-false n (length xs) e in ap (λ (zs : List ℤ). ltb (length zs) n) (sym (take_all n xs (omega arith)))
 
-same-short : (s : List ℕ) (xs ys : List ℤ) → needed s xs ≡ needed s ys → is_short_flow s xs ≡ is_short_flow s ys
+same_short : (s : List ℕ) (xs ys : List ℤ) → needed s xs ≡ needed s ys → is_short_flow s xs ≡ is_short_flow s ys
 unfolding is_short_flow
-same-short s xs ys d = short-take (pins s) xs ∙ ap (λ (zs : List ℤ). ltb (length zs) (pins s)) d ∙ sym (short-take (pins s) ys)
+same_short s xs ys d = short_take (pins s) xs ∙ ap (λ (zs : List ℤ). ltb (length zs) (pins s)) d ∙ sym (short_take (pins s) ys)
 
 -- what the price call answers of the side, or the rest
 abbrev after_price : Priced → Ruled → ℕ → Checked
@@ -93,9 +93,9 @@ after_price (prices.Price p) r claim = judged r p claim
 after_price (prices.Refused why) r claim = Refused why
 
 module _ (s l : List ℕ) (r : Reads s) (xs : List ℤ) (claim : ℕ) where
-  by-price : checked_sound s l xs claim ≡ refuse_if (is_short_flow s xs) Buffer (after_price (priced s l) (ruled_of s xs) claim)
+  by_price : checked_sound s l xs claim ≡ refuse_if (is_short_flow s xs) Buffer (after_price (priced s l) (ruled_of s xs) claim)
   unfolding checked_sound checked_good priced given given_sound
-  by-price = go (is_short_flow s xs) (is_short s l) (is_good s l) refl refl refl
+  by_price = go (is_short_flow s xs) (is_short s l) (is_good s l) refl refl refl
     where
       go : (a b g : Bool) → is_short_flow s xs ≡ a → is_short s l ≡ b → is_good s l ≡ g →
           checked_sound s l xs claim ≡ refuse_if (is_short_flow s xs) Buffer (after_price (priced s l) (ruled_of s xs) claim)
@@ -105,14 +105,14 @@ module _ (s l : List ℕ) (r : Reads s) (xs : List ℤ) (claim : ℕ) where
       go false false false u v w = rw (r.1, u, v, w)
 
 -- sides that agree on the needed bytes, and flows on the needed numbers, get one answer
-pub check-unread : (s l k : List ℕ) (xs ys : List ℤ) (claim : ℕ) → take (bytes_for (modules s)) l ≡ take (bytes_for (modules s)) k → needed s xs ≡ needed s ys →
+pub check_unread : (s l k : List ℕ) (xs ys : List ℤ) (claim : ℕ) → take (bytes_for (modules s)) l ≡ take (bytes_for (modules s)) k → needed s xs ≡ needed s ys →
     checked_of s l xs claim ≡ checked_of s k ys claim
 unfolding checked_of
-check-unread s l k xs ys claim e d = go (read_of s) refl
+check_unread s l k xs ys claim e d = go (read_of s) refl
   where
     go : (r : Reading) → read_of s ≡ r → after_read (read_of s) (checked_sound s l xs claim) ≡ after_read (read_of s) (checked_sound s k ys claim)
     go (reading.Good b) h =
         let same : refuse_if (is_short_flow s xs) Buffer (after_price (priced s l) (ruled_of s xs) claim) ≡ refuse_if (is_short_flow s ys) Buffer (after_price (priced s k) (ruled_of s ys) claim) =
-        rw (same-short s xs ys d, price-unread s l k e, one-ruled s (sound s b h) xs ys d) in
-        ap (after_read (read_of s)) (by-price s l (b, h) xs claim ∙ same ∙ sym (by-price s k (b, h) ys claim))
+        rw (same_short s xs ys d, price_unread s l k e, one_ruled s (sound s b h) xs ys d) in
+        ap (after_read (read_of s)) (by_price s l (b, h) xs claim ∙ same ∙ sym (by_price s k (b, h) ys claim))
     go (reading.Refused why) h = rw h

@@ -7,8 +7,8 @@ use Rattle.line.specs.Flow.{Fair, value}
 pub record Certified (c : Card) (xs : List ℤ) (s : Side) (claim : ℕ) : Type 0 where
   pub fair : Fair c xs
   pub separates : Separates c s
-  pub value-is : value c xs ≡ pos claim
-  pub price-is : price c.nets s ≡ claim
+  pub value_is : value c xs ≡ pos claim
+  pub price_is : price c.nets s ≡ claim
 
 -- a fair flow that no fair flow exceeds in value
 pub record Greatest (c : Card) (xs : List ℤ) : Type 0 where

@@ -10,21 +10,21 @@ use lib.ListN.{length, get_or}
 use Rattle.book.specs.Listed.{listed}
 
 module _ {A : Type 0} where
-  pub length-listed : (f : ℕ → A) (n : ℕ) → length (listed f n) ≡ n
+  pub length_listed : (f : ℕ → A) (n : ℕ) → length (listed f n) ≡ n
   unfolding listed
-  length-listed f zero = refl
-  length-listed f (suc n) = ap suc (length-listed (λ i. f (suc i)) n)
+  length_listed f zero = refl
+  length_listed f (suc n) = ap suc (length_listed (λ i. f (suc i)) n)
 
-  pub get_or-listed : (f : ℕ → A) (n i : ℕ) (d : A) → i < n → get_or (listed f n) i d ≡ f i
+  pub get_or_listed : (f : ℕ → A) (n i : ℕ) (d : A) → i < n → get_or (listed f n) i d ≡ f i
   unfolding listed
-  get_or-listed f zero i d l = absurd (not-suc-le-zero l)
-  get_or-listed f (suc n) zero d l = refl
-  get_or-listed f (suc n) (suc i) d l = get_or-listed (λ k. f (suc k)) n i d (le_of_suc-le-suc l)
+  get_or_listed f zero i d l = absurd (not-suc-le-zero l)
+  get_or_listed f (suc n) zero d l = refl
+  get_or_listed f (suc n) (suc i) d l = get_or_listed (λ k. f (suc k)) n i d (le_of_suc-le-suc l)
 
-  pub mem-listed : (f : ℕ → A) (n : ℕ) (x : A) → Memᴰ x (listed f n) → (i : ℕ) × (i < n) × (x ≡ f i)
+  pub mem_listed : (f : ℕ → A) (n : ℕ) (x : A) → Memᴰ x (listed f n) → (i : ℕ) × (i < n) × (x ≡ f i)
   unfolding listed
-  mem-listed f zero x h = absurd (Memᴰ.not-nil h)
-  mem-listed f (suc n) x h = go (Memᴰ.cases_cons h) (mem-listed (λ i. f (suc i)) n x)
+  mem_listed f zero x h = absurd (Memᴰ.not-nil h)
+  mem_listed f (suc n) x h = go (Memᴰ.cases_cons h) (mem_listed (λ i. f (suc i)) n x)
     where
       go : (x ≡ f 0) ⊎ Memᴰ x (listed (λ i. f (suc i)) n) → (Memᴰ x (listed (λ i. f (suc i)) n) → (i : ℕ) × (i < n) × (x ≡ f (suc i))) →
           (i : ℕ) × (i < suc n) × (x ≡ f i)

@@ -25,37 +25,37 @@ pub first_found : (f : ℕ → Found) (i n p : ℕ) → first f i ≡ Nothing �
 unfolding first
 first_found f i n p h k l = le_ind {n = suc i} (λ m. first f m ≡ At p) (rw h k) (λ m _ e. rw e) n l
 
-pub both-nothing : (a b : Found) → or_else a b ≡ Nothing → (a ≡ Nothing) × (b ≡ Nothing)
-both-nothing (At p) b e = let z : ◌≡◌ {A = ℕ} 0 1 = cc in absurd (omega arith)
-both-nothing Nothing b e = (refl, e)
+pub both_nothing : (a b : Found) → or_else a b ≡ Nothing → (a ≡ Nothing) × (b ≡ Nothing)
+both_nothing (At p) b e = let z : ◌≡◌ {A = ℕ} 0 1 = cc in absurd (omega arith)
+both_nothing Nothing b e = (refl, e)
 
 -- where n places find nothing, each of them does
-pub first-nothing : (f : ℕ → Found) (n k : ℕ) → first f n ≡ Nothing → k < n → f k ≡ Nothing
+pub first_nothing : (f : ℕ → Found) (n k : ℕ) → first f n ≡ Nothing → k < n → f k ≡ Nothing
 unfolding first
-first-nothing f zero k h l = absurd (not-suc-le-zero l)
-first-nothing f (suc n) k h l =
-    let b = both-nothing (first f n) (f n) h in
-    ⊎_elim (λ e. rw e b.1) (λ m. first-nothing f n k b.0 m) (eq-or-lt_of_le (le_of_suc-le-suc l))
+first_nothing f zero k h l = absurd (not-suc-le-zero l)
+first_nothing f (suc n) k h l =
+    let b = both_nothing (first f n) (f n) h in
+    ⊎_elim (λ e. rw e b.1) (λ m. first_nothing f n k b.0 m) (eq-or-lt_of_le (le_of_suc-le-suc l))
 
 -- the same of tests
-pub lowest-more : (t : ℕ → Bool) (i : ℕ) → lowest t i ≡ Nothing → t i ≡ false → lowest t (i + 1) ≡ Nothing
+pub lowest_more : (t : ℕ → Bool) (i : ℕ) → lowest t i ≡ Nothing → t i ≡ false → lowest t (i + 1) ≡ Nothing
 unfolding lowest
-lowest-more t i h e = first_more _ i h (rw e)
+lowest_more t i h e = first_more _ i h (rw e)
 
-pub lowest-found : (t : ℕ → Bool) (i n : ℕ) → lowest t i ≡ Nothing → t i ≡ true → i < n → lowest t n ≡ At i
+pub lowest_found : (t : ℕ → Bool) (i n : ℕ) → lowest t i ≡ Nothing → t i ≡ true → i < n → lowest t n ≡ At i
 unfolding lowest
-lowest-found t i n h e l = first_found _ i n i h (rw e) l
+lowest_found t i n h e l = first_found _ i n i h (rw e) l
 
 pub passed : (t : Bool) (p : ℕ) → find_if t p ≡ Nothing → t ≡ false
 passed true p e = let z : ◌≡◌ {A = ℕ} 0 1 = cc in absurd (omega arith)
 passed false p e = refl
 
-pub lowest-clear : (t : ℕ → Bool) (n k : ℕ) → lowest t n ≡ Nothing → k < n → t k ≡ false
+pub lowest_clear : (t : ℕ → Bool) (n k : ℕ) → lowest t n ≡ Nothing → k < n → t k ≡ false
 unfolding lowest
-lowest-clear t n k h l = passed (t k) k (first-nothing _ n k h l)
+lowest_clear t n k h l = passed (t k) k (first_nothing _ n k h l)
 
-pub lowest-ended : (t : ℕ → Bool) (i n : ℕ) → lowest t i ≡ Nothing → i ≡ n → lowest t n ≡ Nothing
-lowest-ended t i n h e = rw e at h
+pub lowest_ended : (t : ℕ → Bool) (i n : ℕ) → lowest t i ≡ Nothing → i ≡ n → lowest t n ≡ Nothing
+lowest_ended t i n h e = rw e at h
 
 -- a find is the first place at which the test holds
 one_of : (a b : Found) (p : ℕ) → or_else a b ≡ At p → (a ≡ At p) ⊎ ((a ≡ Nothing) × (b ≡ At p))
@@ -66,13 +66,13 @@ tested : (t : Bool) (k p : ℕ) → find_if t k ≡ At p → (k ≡ p) × (t ≡
 tested true k p e = (cc, refl)
 tested false k p e = let z : ◌≡◌ {A = ℕ} 0 1 = cc in absurd (omega arith)
 
-pub lowest-at : (t : ℕ → Bool) (n p : ℕ) → lowest t n ≡ At p → (p < n) × (t p ≡ true) × ((k : ℕ) → k < p → t k ≡ false)
+pub lowest_at : (t : ℕ → Bool) (n p : ℕ) → lowest t n ≡ At p → (p < n) × (t p ≡ true) × ((k : ℕ) → k < p → t k ≡ false)
 unfolding lowest first
-lowest-at t zero p e = let z : ◌≡◌ {A = ℕ} 0 1 = cc in absurd (omega arith)
-lowest-at t (suc n) p e =
+lowest_at t zero p e = let z : ◌≡◌ {A = ℕ} 0 1 = cc in absurd (omega arith)
+lowest_at t (suc n) p e =
     ⊎_elim
-    (λ q. let r = lowest-at t n p q in (omega arith, r.1, r.2))
-    (λ q. let r = tested (t n) n p q.1 in (omega arith, rw r.0 at r.1, λ k l. lowest-clear t n k q.0 (omega arith)))
+    (λ q. let r = lowest_at t n p q in (omega arith, r.1, r.2))
+    (λ q. let r = tested (t n) n p q.1 in (omega arith, rw r.0 at r.1, λ k l. lowest_clear t n k q.0 (omega arith)))
     (one_of (first (λ k. find_if (t k) k) n) (find_if (t n) n) p e)
 
 -- ---- as evidence
@@ -82,23 +82,23 @@ pub record Lowest (f : ℕ → Bool) (n m : ℕ) : Type 0 where
   pub passes : T (f m)
   pub before : (i : ℕ) → i < m → T (not (f i))
 
-pub lowest-none : (f : ℕ → Bool) (n : ℕ) → lowest f n ≡ Nothing → (i : ℕ) → i < n → T (not (f i))
-lowest-none f n e i l = rw (lowest-clear f n i e l) tt
+pub lowest_none : (f : ℕ → Bool) (n : ℕ) → lowest f n ≡ Nothing → (i : ℕ) → i < n → T (not (f i))
+lowest_none f n e i l = rw (lowest_clear f n i e l) tt
 
-pub lowest-some : (f : ℕ → Bool) (n m : ℕ) → lowest f n ≡ At m → Lowest f n m
-lowest-some f n m e = let h = lowest-at f n m e in record { under = h.0; passes = rw h.1 tt; before = λ i l. rw (h.2 i l) tt }
+pub lowest_some : (f : ℕ → Bool) (n m : ℕ) → lowest f n ≡ At m → Lowest f n m
+lowest_some f n m e = let h = lowest_at f n m e in record { under = h.0; passes = rw h.1 tt; before = λ i l. rw (h.2 i l) tt }
 
 -- back: what a loop finds
-pub none-lowest : (f : ℕ → Bool) (n : ℕ) → ((i : ℕ) → i < n → T (not (f i))) → lowest f n ≡ Nothing
+pub none_lowest : (f : ℕ → Bool) (n : ℕ) → ((i : ℕ) → i < n → T (not (f i))) → lowest f n ≡ Nothing
 unfolding lowest first
-none-lowest f zero h = refl
-none-lowest f (suc n) h = rw (none-lowest f n (λ i l. h i (omega arith)), T_false (f n) (h n (omega arith)))
+none_lowest f zero h = refl
+none_lowest f (suc n) h = rw (none_lowest f n (λ i l. h i (omega arith)), T_false (f n) (h n (omega arith)))
 
-pub lowest-is : (f : ℕ → Bool) (n m : ℕ) → Lowest f n m → lowest f n ≡ At m
-lowest-is f n m q = lowest-found f m n (none-lowest f m q.before) (T_true (f m) q.passes) q.under
+pub lowest_is : (f : ℕ → Bool) (n m : ℕ) → Lowest f n m → lowest f n ≡ At m
+lowest_is f n m q = lowest_found f m n (none_lowest f m q.before) (T_true (f m) q.passes) q.under
 
 -- it asks of the places below n alone
-pub lowest-same : (f g : ℕ → Bool) (n : ℕ) → Alike n f g → lowest f n ≡ lowest g n
+pub lowest_same : (f g : ℕ → Bool) (n : ℕ) → Alike n f g → lowest f n ≡ lowest g n
 unfolding lowest first
-lowest-same f g zero e = refl
-lowest-same f g (suc n) e = rw (lowest-same f g n (λ m l. e m (omega arith)), e n (omega arith))
+lowest_same f g zero e = refl
+lowest_same f g (suc n) e = rw (lowest_same f g n (λ m l. e m (omega arith)), e n (omega arith))

@@ -12,8 +12,8 @@ use Rattle.book.specs.Format.{u16, u32, entry_is, laid, Laid, modules, nets, pin
 use Rattle.book.specs.declared.Found.TheVariants.{Nothing}
 use Rattle.book.specs.First.{lowest, find_if}
 use Rattle.book.specs.Checks.{least_modules, most_modules, most_nets, most_pins, counted, bad_net, check4}
-use Rattle.book.proofs.Firsts.{passed, both-nothing}
-use Rattle.line.proofs.Bools.{and-four}
+use Rattle.book.proofs.Firsts.{passed, both_nothing}
+use Rattle.line.proofs.Bools.{and_four}
 
 -- what check 1 asks, one by one
 pub record Contents (s : List ℕ) : Type 0 where
@@ -63,8 +63,8 @@ entry s at kind start unit h =
     let b = (and-eq-true_iff (eqb (u16 s at) kind) (eqb (u32 s (at + 2)) start)).0 a.0 in
     record { starts = eqb-true _ _ b.1; whole = eqb-true _ _ a.1 }
 
-pub laid-facts : (s : List ℕ) → laid s ≡ true → Laid s
-laid-facts s h =
+pub laid_facts : (s : List ℕ) → laid s ≡ true → Laid s
+laid_facts s h =
     let q = contents s h in
     let m = entry s 2 _ _ _ q.one in
     let n = entry s 12 _ _ _ q.two in
@@ -75,22 +75,22 @@ laid-facts s h =
     let w : u32 s 24 ≡ 32 + u32 s 8 + u32 s 18 = p.starts in
     record {
       contents = q.long;
-      modules-whole = m.whole;
-      nets-at = omega arith;
-      nets-whole = n.whole;
-      pins-at = omega arith;
-      pins-whole = p.whole;
+      modules_whole = m.whole;
+      nets_at = omega arith;
+      nets_whole = n.whole;
+      pins_at = omega arith;
+      pins_whole = p.whole;
       ends = omega arith;
     }
 
-pub counted-nets : (s : List ℕ) → counted s ≡ true → nets s ≤ most_nets
+pub counted_nets : (s : List ℕ) → counted s ≡ true → nets s ≤ most_nets
 unfolding counted
-counted-nets s h = leb-true _ _ (and-four (leb least_modules (modules s)) (leb (modules s) most_modules) (leb (nets s) most_nets) (leb (pins s) most_pins) h).2
+counted_nets s h = leb-true _ _ (and_four (leb least_modules (modules s)) (leb (modules s) most_modules) (leb (nets s) most_nets) (leb (pins s) most_pins) h).2
 
 -- what check 4 tells
 equal : (a b p : ℕ) → find_if (not (eqb a b)) p ≡ Nothing → a ≡ b
 equal a b p h = eqb-true a b (not-false _ (passed _ p h))
 
-pub sum-right : (s : List ℕ) → check4 s ≡ Nothing → first_pin s (nets s) ≡ pins s
+pub sum_right : (s : List ℕ) → check4 s ≡ Nothing → first_pin s (nets s) ≡ pins s
 unfolding check4
-sum-right s h = equal _ _ (nets s) (both-nothing (lowest (bad_net s) (nets s)) _ h).1
+sum_right s h = equal _ _ (nets s) (both_nothing (lowest (bad_net s) (nets s)) _ h).1

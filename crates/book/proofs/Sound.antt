@@ -19,9 +19,9 @@ use Rattle.book.specs.Format.{laid, modules, nets, pins, area, mark, weight, pin
 use Rattle.book.specs.Checks.{most_nets, most_modules, most_pins, least_modules, counted, check1, check2, check3, check4, check5, check6, lacks, refuse, book_of, rest_of, read_of}
 use Rattle.book.specs.Checks.{bad_module, bad_net, bad_pin, bad_pin_of, bad_pins}
 use Rattle.book.specs.Sound.{Sound}
-use Rattle.book.proofs.Firsts.{passed, both-nothing, lowest-clear, lowest-at, first-nothing}
-use Rattle.book.proofs.Laid.{laid-facts, sum-right}
-use Rattle.line.proofs.Bools.{or-none, and-four}
+use Rattle.book.proofs.Firsts.{passed, both_nothing, lowest_clear, lowest_at, first_nothing}
+use Rattle.book.proofs.Laid.{laid_facts, sum_right}
+use Rattle.line.proofs.Bools.{or_none, and_four}
 
 -- an answer that is no refusal
 accepted : (f : Found) (why : ℕ → Refusal) (r : Reading) (b : Book) → refuse f why r ≡ Good b → (f ≡ Nothing) × (r ≡ Good b)
@@ -41,7 +41,7 @@ has : (s : List ℕ) (k : ℕ) → lacks s k ≡ false → (m : ℕ) × (m < mod
 unfolding lacks
 has s k e =
     let f = found _ e in
-    let h = lowest-at (λ m. eqb (mark s m) k) (modules s) f.0 f.1 in
+    let h = lowest_at (λ m. eqb (mark s m) k) (modules s) f.0 f.1 in
     (f.0, h.0, eqb-true _ _ h.1)
 
 module _ (s : List ℕ) (b : Book) (e : read_of s ≡ Good b) where
@@ -57,9 +57,9 @@ module _ (s : List ℕ) (b : Book) (e : read_of s ≡ Good b) where
     pub six : (lacks s 1 || lacks s 2) ≡ false
     pub counts : Good (book_of s) ≡ Good b
 
-  pub passed-all : Passed
+  pub passed_all : Passed
   unfolding rest_of
-  passed-all =
+  passed_all =
       let a = accepted (check2 s) (λ _. Counts) _ b rest.1 in
       let b2 = accepted (check3 s) Module _ b a.1 in
       let c = accepted (check4 s) Net _ b b2.1 in
@@ -85,44 +85,44 @@ rises f j g h =
 
 module _ (s : List ℕ) (b : Book) (e : read_of s ≡ Good b) where
   all : Passed s b e
-  all = passed-all s b e
+  all = passed_all s b e
 
-  nets-good : (k : ℕ) → k < nets s → bad_net s k ≡ false
+  nets_good : (k : ℕ) → k < nets s → bad_net s k ≡ false
   unfolding check4
-  nets-good k l = lowest-clear (bad_net s) (nets s) k (both-nothing _ _ all.four).0 l
+  nets_good k l = lowest_clear (bad_net s) (nets s) k (both_nothing _ _ all.four).0 l
 
-  pin-good : (k j : ℕ) → k < nets s → j < pin_count s k → bad_pin_of s k j ≡ false
+  pin_good : (k j : ℕ) → k < nets s → j < pin_count s k → bad_pin_of s k j ≡ false
   unfolding check5
-  pin-good k j l h =
-      lowest-clear (bad_pin_of s k) (pin_count s k) j (unshifted (first_pin s k) _ (first-nothing (bad_pins s) (nets s) k all.five l)) h
+  pin_good k j l h =
+      lowest_clear (bad_pin_of s k) (pin_count s k) j (unshifted (first_pin s k) _ (first_nothing (bad_pins s) (nets s) k all.five l)) h
 
   -- a book that reads is sound
   pub sound : Sound s
   unfolding counted check3 bad_module bad_net bad_pin
   sound =
-      let c = and-four (leb least_modules (modules s)) (leb (modules s) most_modules) (leb (nets s) most_nets) (leb (pins s) most_pins) all.two in
-      let mods = lowest-clear (bad_module s) (modules s) in
-      let six = or-none _ _ all.six in
+      let c = and_four (leb least_modules (modules s)) (leb (modules s) most_modules) (leb (nets s) most_nets) (leb (pins s) most_pins) all.two in
+      let mods = lowest_clear (bad_module s) (modules s) in
+      let six = or_none _ _ all.six in
       record {
-        laid_out = laid-facts s (rest s b e).0;
-        some-modules = leb-true _ _ c.0;
-        few-modules = leb-true _ _ c.1;
-        few-nets = leb-true _ _ c.2;
-        few-pins = leb-true _ _ c.3;
-        area-some = λ k l. some _ (or-none _ _ (mods k all.three l)).0;
-        mark-low = λ k l. ltb-false _ _ (or-none (eqb (area s k) 0) _ (mods k all.three l)).1;
-        weight-some = λ k l. some _ (or-none _ _ (nets-good k l)).0;
-        pins-some = λ k l. some _ (or-none (eqb (weight s k) 0) _ (nets-good k l)).1;
-        pins-all = sum-right s all.four;
-        pin-module = λ k j l h. leb-false _ _ (or-none _ _ (pin-good k j l h)).0;
-        pin-rises = λ k j l h. rises (first_pin s k) j (pin s) (or-none (leb (modules s) (pin s (first_pin s k + suc j))) _ (pin-good k (suc j) l h)).1;
+        laid_out = laid_facts s (rest s b e).0;
+        some_modules = leb-true _ _ c.0;
+        few_modules = leb-true _ _ c.1;
+        few_nets = leb-true _ _ c.2;
+        few_pins = leb-true _ _ c.3;
+        area_some = λ k l. some _ (or_none _ _ (mods k all.three l)).0;
+        mark_low = λ k l. ltb-false _ _ (or_none (eqb (area s k) 0) _ (mods k all.three l)).1;
+        weight_some = λ k l. some _ (or_none _ _ (nets_good k l)).0;
+        pins_some = λ k l. some _ (or_none (eqb (weight s k) 0) _ (nets_good k l)).1;
+        pins_all = sum_right s all.four;
+        pin_module = λ k j l h. leb-false _ _ (or_none _ _ (pin_good k j l h)).0;
+        pin_rises = λ k j l h. rises (first_pin s k) j (pin s) (or_none (leb (modules s) (pin s (first_pin s k + suc j))) _ (pin_good k (suc j) l h)).1;
         meter = has s 1 six.0;
         maker = has s 2 six.1;
       }
 
   -- and its counts are those of the answer
-  pub counts-are : book_of s ≡ b
-  counts-are = let h = all.counts in cc
+  pub counts_are : book_of s ≡ b
+  counts_are = let h = all.counts in cc
 
 -- any two answers that `read`'s contract allows are one
 pub one_answer : (s : List ℕ) (r q : Reading) → r ≡ read_of s → q ≡ read_of s → r ≡ q

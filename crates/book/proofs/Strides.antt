@@ -40,13 +40,13 @@ module _ (w : ℕ) (number : List ℕ → ℕ → ℕ) (s : List ℕ) (at : ℕ)
   ends e = leb-false _ _ (stopped (leb (at + w) (length s)) (number s at) (at + w) e)
 
   -- and back
-  pub does-go : (n : ℕ) (next : Cursor) → at + w ≤ length s → n ≡ number s at → next.at ≡ at + w → Number n next ≡ step_by w number s at
+  pub does_go : (n : ℕ) (next : Cursor) → at + w ≤ length s → n ≡ number s at → next.at ≡ at + w → Number n next ≡ step_by w number s at
   unfolding step_by
-  does-go n next l e a = rw (le-leb _ _ l) (λ i. Number (e i) (record { at = a i }))
+  does_go n next l e a = rw (le-leb _ _ l) (λ i. Number (e i) (record { at = a i }))
 
-  pub does-end : length s < at + w → End ≡ step_by w number s at
+  pub does_end : length s < at + w → End ≡ step_by w number s at
   unfolding step_by
-  does-end l = rw (lt-leb _ _ l)
+  does_end l = rw (lt-leb _ _ l)
 
 -- ---- over an entry of the contents, at an offset of s
 
@@ -54,33 +54,33 @@ module _ (s : List ℕ) (at : ℕ) where
   -- its three numbers, one step each
   pub record Got (kind start bytes : ℕ) (next : Cursor) : Type 0 where
     pub there : at + 10 ≤ length s
-    pub kind-is : kind ≡ u16 s at
+    pub kind_is : kind ≡ u16 s at
     pub start_is : start ≡ u32 s (at + 2)
-    pub bytes-is : bytes ≡ u32 s (at + 6)
+    pub bytes_is : bytes ≡ u32 s (at + 6)
     pub after : next.at ≡ at + 10
 
   pub got : (k a b : ℕ) (c d e : Cursor) → Goes 2 u16 s at k c → Goes 4 u32 s c.at a d → Goes 4 u32 s d.at b e → Got k a b e
   got k a b c d e f g h = record {
     there = omega (arith, h.there, g.after, f.after);
-    kind-is = f.is;
+    kind_is = f.is;
     start_is = g.is ∙ ap (u32 s) f.after;
-    bytes-is = let l : d.at ≡ at + 6 = omega (arith, g.after, f.after) in h.is ∙ ap (u32 s) l;
+    bytes_is = let l : d.at ≡ at + 6 = omega (arith, g.after, f.after) in h.is ∙ ap (u32 s) l;
     after = omega (arith, h.after, g.after, f.after);
   }
 
   module _ (kind start unit : ℕ) where
-    pub does-enter : (k a b : ℕ) (next : Cursor) → Got k a b next → (eqb k kind && eqb a start && eqb (b % unit) 0) ≡ true →
+    pub does_enter : (k a b : ℕ) (next : Cursor) → Got k a b next → (eqb k kind && eqb a start && eqb (b % unit) 0) ≡ true →
         Number (start + b) next ≡ step_entry s at kind start unit
     unfolding step_entry entry_is
-    does-enter k a b next g t =
-        let e : (eqb (u16 s at) kind && eqb (u32 s (at + 2)) start && eqb (u32 s (at + 6) % unit) 0) ≡ true = rw (g.kind-is, g.start_is, g.bytes-is) at t in
-        rw (le-leb _ _ g.there, e) (λ i. Number (start + g.bytes-is i) (record { at = g.after i }))
+    does_enter k a b next g t =
+        let e : (eqb (u16 s at) kind && eqb (u32 s (at + 2)) start && eqb (u32 s (at + 6) % unit) 0) ≡ true = rw (g.kind_is, g.start_is, g.bytes_is) at t in
+        rw (le-leb _ _ g.there, e) (λ i. Number (start + g.bytes_is i) (record { at = g.after i }))
 
-    pub does-refuse : (k a b : ℕ) (next : Cursor) → Got k a b next → (eqb k kind && eqb a start && eqb (b % unit) 0) ≡ false →
+    pub does_refuse : (k a b : ℕ) (next : Cursor) → Got k a b next → (eqb k kind && eqb a start && eqb (b % unit) 0) ≡ false →
         End ≡ step_entry s at kind start unit
     unfolding step_entry entry_is
-    does-refuse k a b next g t =
-        let e : (eqb (u16 s at) kind && eqb (u32 s (at + 2)) start && eqb (u32 s (at + 6) % unit) 0) ≡ false = rw (g.kind-is, g.start_is, g.bytes-is) at t in
+    does_refuse k a b next g t =
+        let e : (eqb (u16 s at) kind && eqb (u32 s (at + 2)) start && eqb (u32 s (at + 6) % unit) 0) ≡ false = rw (g.kind_is, g.start_is, g.bytes_is) at t in
         rw (le-leb _ _ g.there, e)
 
     pub cut_short : length s < at + 10 → End ≡ step_entry s at kind start unit

@@ -11,15 +11,15 @@ use borrow.Author.Tests.{eqb-true, eqb-false, not-true}
 use Rattle.flow.specs.Search.{Pin}
 use Rattle.flow.specs.Cards.{card_of}
 use Rattle.flow.proofs.VisitLaws.{Read, read}
-use Rattle.flow.proofs.CardLaws.{Made, card-made, grid-of, run-net}
+use Rattle.flow.proofs.CardLaws.{Made, card_made, grid_of, run_net}
 use Rattle.climb.specs.Climb.{Lay, Entry, Onward}
 
 -- ---- what tests tell together
 
 -- of three tests of which one passes, the one that is left
-free-true : (takes free sends : Bool) → ((takes || free) || sends) ≡ true → takes ≡ false → sends ≡ false → free ≡ true
-free-true takes true sends e p q = refl
-free-true takes false sends e p q = absurd (false≢true (rw (p, q) at e))
+free_true : (takes free sends : Bool) → ((takes || free) || sends) ≡ true → takes ≡ false → sends ≡ false → free ≡ true
+free_true takes true sends e p q = refl
+free_true takes false sends e p q = absurd (false≢true (rw (p, q) at e))
 
 -- ---- the step
 
@@ -35,21 +35,21 @@ entry_of ms mk w lo hi takes free sends r a {k} {f} {i} {m} {x} on em e kd ef ex
       number = ex ∙ ap (λ (j : ℕ). r * 4294967296 + j + i) ef;
       on = on;
       small = kd.0;
-      room = λ z. free-true takes free sends some.0 (kd.1 z).0 (kd.1 z).1;
+      room = λ z. free_true takes free sends some.0 (kd.1 z).0 (kd.1 z).1;
       fresh = subst (λ (j : ℕ). get_or w j 0 ≡ 0) em (eqb-true (get_or w m 0) 0 some.1);
-      no-meter = subst (λ (j : ℕ). get_or mk j 0 ≢ 1) em (eqb-false (get_or mk m 0) 1 (not-true _ all.1));
+      no_meter = subst (λ (j : ℕ). get_or mk j 0 ≢ 1) em (eqb-false (get_or mk m 0) 1 (not-true _ all.1));
     }
 
 -- the step leaves by pin a of u, the pins looked at are those of a's net, and the net's room is free only if its mark is 0
-pub onward-of : (fs ms ws nt at pl mk : List ℕ) → Lay fs ms ws nt at pl mk → (w sn : List ℕ) (wide : Bool) (u r a : ℕ) {n lo hi x : ℕ} → a < length ms → get_or ms a 0 ≡ u → r ≤ length mk →
+pub onward_of : (fs ms ws nt at pl mk : List ℕ) → Lay fs ms ws nt at pl mk → (w sn : List ℕ) (wide : Bool) (u r a : ℕ) {n lo hi x : ℕ} → a < length ms → get_or ms a 0 ≡ u → r ≤ length mk →
     n ≡ get_or nt a 0 → lo ≡ get_or fs n 0 → hi ≡ get_or fs (n + 1) 0 → Entry ms mk w lo hi (wide && eqb (get_or sn n 0) 0) r a x → Onward ms nt mk w sn u r x
-onward-of fs ms ws nt at pl mk lay w sn wide u r a {n} {lo} {hi} {x} la eu lr en el eh y = record {
+onward_of fs ms ws nt at pl mk lay w sn wide u r a {n} {lo} {hi} {x} la eu lr en el eh y = record {
   in_left = omega (arith, z.left);
-  in-entered = omega (arith, z.entered, lb);
-  same = ap (λ (j : ℕ). get_or nt j 0) z.entered ∙ run-net _ fs ms ws nt made (grid-of _ fs ms ws nt at pl (length mk) made lay.tables) n y.pin ln on ∙ en ∙ ap (λ (j : ℕ). get_or nt j 0) (sym z.left);
+  in_entered = omega (arith, z.entered, lb);
+  same = ap (λ (j : ℕ). get_or nt j 0) z.entered ∙ run_net _ fs ms ws nt made (grid_of _ fs ms ws nt at pl (length mk) made lay.tables) n y.pin ln on ∙ en ∙ ap (λ (j : ℕ). get_or nt j 0) (sym z.left);
   from = ap (λ (j : ℕ). get_or ms j 0) z.left ∙ eu;
   fresh = subst (λ (j : ℕ). get_or w (get_or ms j 0) 0 ≡ 0) (sym z.entered) y.fresh;
-  no-meter = subst (λ (j : ℕ). get_or mk (get_or ms j 0) 0 ≢ 1) (sym z.entered) y.no-meter;
+  no_meter = subst (λ (j : ℕ). get_or mk (get_or ms j 0) 0 ≢ 1) (sym z.entered) y.no_meter;
   rank = omega (arith, y.number, y.small, la, lb, few);
   few = lr;
   small = omega (arith, z.kind, y.small);
@@ -57,13 +57,13 @@ onward-of fs ms ws nt at pl mk lay w sn wide u r a {n} {lo} {hi} {x} la eu lr en
 }
   where
     few : length ms < 16384
-    few = lay.few-pins
+    few = lay.few_pins
 
     ln : n < length ws
     ln = omega (arith, en, (lay.tables.net a la).0)
 
     made : Made (card_of fs ms ws mk) fs ms ws
-    made = card-made fs ms ws mk lay.laid
+    made = card_made fs ms ws mk lay.laid
 
     on : Pin (get_or fs n 0) (get_or fs (n + 1) 0) y.pin
     on = record { low = omega (arith, el, y.on.low); high = omega (arith, eh, y.on.high) }

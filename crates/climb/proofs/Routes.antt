@@ -12,16 +12,16 @@ use Rattle.line.proofs.Ways.{plainly}
 use Rattle.line.proofs.WayFlow.{Valid}
 use Rattle.line.proofs.Index.{net_at, start}
 use Rattle.line.proofs.Path.{pin_of}
-use Rattle.line.proofs.Tree.{Twig, Tree, walk-sound, walk-pairwise, walk-leads}
+use Rattle.line.proofs.Tree.{Twig, Tree, walk_sound, walk_pairwise, walk_leads}
 use Rattle.flow.specs.Search.{In, rank, left, kind, entered}
 use Rattle.flow.specs.Cards.{card_of, Grid, side_of, up_of}
 use Rattle.flow.specs.Push.{Trail, Level}
 use Rattle.flow.specs.Raise.{Field, Route, Steady, MayCarry, Carried}
-use Rattle.flow.proofs.CardLaws.{Made, card-made, card-valid, card-modules, card-mark, grid-of}
-use Rattle.flow.proofs.TreeLaws.{rank_of, no_eqb, pin-global}
-use Rattle.flow.proofs.RaiseLaws.{level-of}
+use Rattle.flow.proofs.CardLaws.{Made, card_made, card_valid, card_modules, card_mark, grid_of}
+use Rattle.flow.proofs.TreeLaws.{rank_of, no_eqb, pin_global}
+use Rattle.flow.proofs.RaiseLaws.{level_of}
 use Rattle.climb.specs.Climb.{Lay, Thread}
-use Rattle.climb.proofs.Threads.{tip-below}
+use Rattle.climb.proofs.Threads.{tip_below}
 
 -- the pin from which the room of net e is used: the one that the module it leads to was reached from
 abbrev opener_of : Card → List ℕ → List ℕ → ℕ → ℕ
@@ -33,22 +33,22 @@ module _ (fs ms ws nt at pl mk : List ℕ) (lay : Lay fs ms ws nt at pl mk) (hea
   c = card_of fs ms ws mk
 
   made : Made (card_of fs ms ws mk) fs ms ws
-  made = card-made fs ms ws mk lay.laid
+  made = card_made fs ms ws mk lay.laid
 
   grid : Grid (card_of fs ms ws mk) ms nt
-  grid = grid-of (card_of fs ms ws mk) fs ms ws nt at pl (length mk) made lay.tables
+  grid = grid_of (card_of fs ms ws mk) fs ms ws nt at pl (length mk) made lay.tables
 
   valid : Valid (card_of fs ms ws mk)
-  valid = card-valid fs ms ws mk lay.laid
+  valid = card_valid fs ms ws mk lay.laid
 
-  thread-field : Field (card_of fs ms ws mk) ms ws nt mk w
-  thread-field = record {
+  thread_field : Field (card_of fs ms ws mk) ms ws nt mk w
+  thread_field = record {
     ground = record {
       grid = grid;
       trail = subst (Trail ms nt mk w) (sym made.nets) t.trail;
       valid = valid;
-      modules = card-modules fs ms ws mk lay.laid;
-      mark = card-mark fs ms ws mk lay.laid;
+      modules = card_modules fs ms ws mk lay.laid;
+      mark = card_mark fs ms ws mk lay.laid;
       weights = λ e l. let l' : e < length ws = omega (arith, made.nets) in omega (arith, heavy e l', made.weight e l');
     };
     nets = made.nets;
@@ -56,23 +56,23 @@ module _ (fs ms ws nt at pl mk : List ℕ) (lay : Lay fs ms ws nt at pl mk) (hea
   }
 
   -- the module of a pin, by the numbers of the card
-  pin-module : (e a : ℕ) → a < length ms → get_or nt a 0 ≡ e → (a - start c.nets e < length (net_at c.nets e).pins) × (pin_of c e (a - start c.nets e) ≡ get_or ms a 0)
-  pin-module e a l q =
+  pin_module : (e a : ℕ) → a < length ms → get_or nt a 0 ≡ e → (a - start c.nets e < length (net_at c.nets e).pins) × (pin_of c e (a - start c.nets e) ≡ get_or ms a 0)
+  pin_module e a l q =
       let s : start c.nets (get_or nt a 0) ≡ start c.nets e = ap (start c.nets) q in
       let k : length (net_at c.nets (get_or nt a 0)).pins ≡ length (net_at c.nets e).pins = ap (λ (n : ℕ). length (net_at c.nets n).pins) q in
       let low = grid.low a l in
       let high = grid.high a l in
       let i : a - start c.nets e < length (net_at c.nets e).pins = omega arith in
       let at : start c.nets e + (a - start c.nets e) ≡ a = omega arith in
-      (i, pin-global c ms grid.pins e (a - start c.nets e) (omega (arith, grid.net a l, q)) i ∙ ap (λ (j : ℕ). get_or ms j 0) at)
+      (i, pin_global c ms grid.pins e (a - start c.nets e) (omega (arith, grid.net a l, q)) i ∙ ap (λ (j : ℕ). get_or ms j 0) at)
 
   twig : (m : ℕ) → In w m → get_or mk m 0 ≢ 1 → Twig plainly c (rank_of w) (opener_of c w sn) (side_of w) m (up_of c nt w m)
   twig m i n =
       let x = get_or w m 0 in
       let e = get_or nt (left x) 0 in
       let k = t.trail.step m i n in
-      let a = pin-module e (left x) k.in_left refl in
-      let b = pin-module e (entered x) k.in-entered k.same in
+      let a = pin_module e (left x) k.in_left refl in
+      let b = pin_module e (entered x) k.in_entered k.same in
       let to : pin_of c e (entered x - start c.nets e) ≡ m = b.1 ∙ t.to m i n in record {
         sound = record {
           net = grid.net (left x) k.in_left;
@@ -95,26 +95,26 @@ module _ (fs ms ws nt at pl mk : List ℕ) (lay : Lay fs ms ws nt at pl mk) (hea
           ap (λ (j : ℕ). left (get_or w j 0) - start c.nets (get_or nt (left (get_or w m 0)) 0)) one
 
   tree : Tree plainly c (rank_of w) (opener_of c w sn) (up_of c nt w) (side_of w)
-  tree m l s n = twig m (ltb→lt 0 (get_or w m 0) s) (λ e. n (card-mark fs ms ws mk lay.laid m ∙ e))
+  tree m l s n = twig m (ltb→lt 0 (get_or w m 0) s) (λ e. n (card_mark fs ms ws mk lay.laid m ∙ e))
 
-  thread-route : get_or mk z 0 ≡ 2 → Route (card_of fs ms ws mk) nt mk w z
-  thread-route e =
-      let low : z < c.modules = omega (arith, card-modules fs ms ws mk lay.laid, tip-below t) in
-      let in-side : T (side_of w z) = lt→ltb 0 (get_or w z 0) t.tip in record {
+  thread_route : get_or mk z 0 ≡ 2 → Route (card_of fs ms ws mk) nt mk w z
+  thread_route e =
+      let low : z < c.modules = omega (arith, card_modules fs ms ws mk lay.laid, tip_below t) in
+      let in_side : T (side_of w z) = lt→ltb 0 (get_or w z 0) t.tip in record {
         from = t.tip;
-        maker = card-mark fs ms ws mk lay.laid z ∙ e;
-        sound = walk-sound plainly c valid (rank_of w) (opener_of c w sn) (up_of c nt w) (side_of w) tree (suc (length mk)) z low in-side;
-        apart = walk-pairwise plainly c valid (rank_of w) (opener_of c w sn) (up_of c nt w) (side_of w) tree (suc (length mk)) z low in-side;
-        leads = walk-leads plainly c valid (rank_of w) (opener_of c w sn) (up_of c nt w) (side_of w) tree (suc (length mk)) z low in-side (omega (arith, t.trail.ranks z t.tip));
+        maker = card_mark fs ms ws mk lay.laid z ∙ e;
+        sound = walk_sound plainly c valid (rank_of w) (opener_of c w sn) (up_of c nt w) (side_of w) tree (suc (length mk)) z low in_side;
+        apart = walk_pairwise plainly c valid (rank_of w) (opener_of c w sn) (up_of c nt w) (side_of w) tree (suc (length mk)) z low in_side;
+        leads = walk_leads plainly c valid (rank_of w) (opener_of c w sn) (up_of c nt w) (side_of w) tree (suc (length mk)) z low in_side (omega (arith, t.trail.ranks z t.tip));
       }
 
-  pub thread-level : (sm : List ℕ) (fl : List ℤ) → Steady (card_of fs ms ws mk) ms sm fl → Level ms ws sm fl
-  thread-level = level-of c ms ws nt mk w thread-field
+  pub thread_level : (sm : List ℕ) (fl : List ℤ) → Steady (card_of fs ms ws mk) ms sm fl → Level ms ws sm fl
+  thread_level = level_of c ms ws nt mk w thread_field
 
   -- from a maker what the way carries can be pushed, and the flow stays fair
   module _ (sm : List ℕ) (fl : List ℤ) (s : Steady (card_of fs ms ws mk) ms sm fl) (maker : get_or mk z 0 ≡ 2) where
-    pub thread-carries : MayCarry ms ws nt mk w sm fl z
-    thread-carries = (c, thread-field, thread-route maker, s)
+    pub thread_carries : MayCarry ms ws nt mk w sm fl z
+    thread_carries = (c, thread_field, thread_route maker, s)
 
-    pub thread-carried : {sm' : List ℕ} {fl' : List ℤ} → Carried ms ws nt mk w sm fl z sm' fl' → Steady (card_of fs ms ws mk) ms sm' fl'
-    thread-carried k = (k c thread-field (thread-route maker) s).0.steady
+    pub thread_carried : {sm' : List ℕ} {fl' : List ℤ} → Carried ms ws nt mk w sm fl z sm' fl' → Steady (card_of fs ms ws mk) ms sm' fl'
+    thread_carried k = (k c thread_field (thread_route maker) s).0.steady

@@ -9,9 +9,9 @@ use Rattle.flow.specs.Push.{Trail}
 pub record Lay (fs ms ws nt at pl mk : List ℕ) : Type 0 where
   pub laid : Laid fs ms ws mk
   pub tables : Tables fs ms ws nt at pl (length mk)
-  pub few-pins : length ms < 16384
-  pub few-modules : length mk ≤ 256
-  pub few-nets : length ws ≤ 512
+  pub few_pins : length ms < 16384
+  pub few_modules : length mk ≤ 256
+  pub few_nets : length ws ≤ 512
 
 -- every pin names one of M modules, or of M nets
 abbrev pub Named : List ℕ → ℕ → Type 0
@@ -26,16 +26,16 @@ pub record Entry (ms mk w : List ℕ) (lo hi : ℕ) (free : Bool) (r a x : ℕ) 
   pub small : by ≤ 2
   pub room : by ≡ 0 → free ≡ true
   pub fresh : get_or w (get_or ms pin 0) 0 ≡ 0
-  pub no-meter : get_or mk (get_or ms pin 0) 0 ≢ 1
+  pub no_meter : get_or mk (get_or ms pin 0) 0 ≢ 1
 
 -- x tells a step of rank r from u to a module that is no meter and not on the way; by a net's room only if the way does not use it
 pub record Onward (ms nt mk w sn : List ℕ) (u r x : ℕ) : Type 0 where
   pub in_left : left x < length ms
-  pub in-entered : entered x < length ms
+  pub in_entered : entered x < length ms
   pub same : get_or nt (entered x) 0 ≡ get_or nt (left x) 0
   pub from : get_or ms (left x) 0 ≡ u
   pub fresh : get_or w (get_or ms (entered x) 0) 0 ≡ 0
-  pub no-meter : get_or mk (get_or ms (entered x) 0) 0 ≢ 1
+  pub no_meter : get_or mk (get_or ms (entered x) 0) 0 ≢ 1
   pub rank : rank x ≡ r
   pub few : r ≤ length mk
   pub small : kind x ≤ 2

@@ -15,26 +15,26 @@ use Rattle.gate.specs.Gates.{good_gate}
 use Rattle.walk.specs.Call.{checked_of, refused, Left}
 use Rattle.desk.specs.Answers.{places, bad_gate, gate_of, walk_places, WalkTold}
 
-no-gate : (n : ℕ) (a b : Float) → 2 < n → gate_of n a b ≡ bad_gate
-no-gate n a b h = rw (ne_eqb n 0 (λ e. omega arith), ne_eqb n 1 (λ e. omega arith), ne_eqb n 2 (λ e. omega arith))
+no_gate : (n : ℕ) (a b : Float) → 2 < n → gate_of n a b ≡ bad_gate
+no_gate n a b h = rw (ne_eqb n 0 (λ e. omega arith), ne_eqb n 1 (λ e. omega arith), ne_eqb n 2 (λ e. omega arith))
 
-pub no-gate-bad : (n : ℕ) (a b : Float) → 2 < n → good_gate (gate_of n a b) ≡ false
+pub no_gate_bad : (n : ℕ) (a b : Float) → 2 < n → good_gate (gate_of n a b) ≡ false
 unfolding le
-no-gate-bad n a b h = rw (no-gate n a b h)
+no_gate_bad n a b h = rw (no_gate n a b h)
 
 -- the walk's answer to such a number
 pub record Seven (side₀ rows₀ side rows : List ℕ) (eight : List ℤ) : Type 0 where
   pub numbers : eight ≡ places (number_of Gate) (place_of Gate) []
-  pub side-kept : side ≡ side₀
-  pub rows-kept : rows ≡ rows₀
+  pub side_kept : side ≡ side₀
+  pub rows_kept : rows ≡ rows₀
 
-pub no-gate-seven : (s : List ℕ) (n : ℕ) (a b : Float) (side₀ rows₀ side rows : List ℕ) (eight : List ℤ) → 2 < n → Reads s → WalkTold s (gate_of n a b) side₀ rows₀ side rows eight → Seven side₀ rows₀ side rows eight
+pub no_gate_seven : (s : List ℕ) (n : ℕ) (a b : Float) (side₀ rows₀ side rows : List ℕ) (eight : List ℤ) → 2 < n → Reads s → WalkTold s (gate_of n a b) side₀ rows₀ side rows eight → Seven side₀ rows₀ side rows eight
 unfolding checked_of
-no-gate-seven s n a b side₀ rows₀ side rows eight h r k =
-    let e : checked_of s (gate_of n a b) side₀ rows₀ ≡ Refused Gate = rw (r.1, no-gate-bad n a b h) in
+no_gate_seven s n a b side₀ rows₀ side rows eight h r k =
+    let e : checked_of s (gate_of n a b) side₀ rows₀ ≡ Refused Gate = rw (r.1, no_gate_bad n a b h) in
     let w : record { answer = k.answer; side = side; rows = rows } ≡ refused Gate side₀ rows₀ = rw e at k.walked in
     record {
       numbers = k.numbers ∙ ap (λ (l : Left). walk_places l.answer) w;
-      side-kept = ap (λ (l : Left). l.side) w;
-      rows-kept = ap (λ (l : Left). l.rows) w;
+      side_kept = ap (λ (l : Left). l.side) w;
+      rows_kept = ap (λ (l : Left). l.rows) w;
     }

@@ -7,7 +7,7 @@ use native.Mathlib.Omega.{arith}
 use lib.Dec.{leb, eqb}
 use lib.IntN.{ℤ}
 use borrow.Author.Tests.{leb-true, not-false}
-use Rattle.line.proofs.Bools.{and-four}
+use Rattle.line.proofs.Bools.{and_four}
 use Rattle.book.specs.declared.Found.{Found}
 use Rattle.book.specs.declared.Found.TheVariants.{At, Nothing}
 use Rattle.book.specs.declared.Reading.{Reading}
@@ -20,26 +20,26 @@ use Rattle.book.specs.First.{first, lowest, find_if, or_else, from}
 use Rattle.book.specs.Format.{modules, nets, pins, pin_count, first_pin}
 use Rattle.book.specs.Cards.{card_of}
 use Rattle.book.specs.Checks.{least_modules, most_modules, most_nets, most_pins, counted, bad_module, bad_net, bad_pin_of, bad_pins, check1, check2, check3, check4, check5, check6, refuse, book_of, rest_of, read_of}
-use Rattle.book.proofs.Firsts.{passed, lowest-at}
-use Rattle.book.proofs.Laid.{sum-right}
-use Rattle.book.proofs.CardLaws.{pin-before}
+use Rattle.book.proofs.Firsts.{passed, lowest_at}
+use Rattle.book.proofs.Laid.{sum_right}
+use Rattle.book.proofs.CardLaws.{pin_before}
 use Rattle.book.proofs.Sound.{sound}
 use Rattle.side.specs.declared.Priced.TheVariants as prices
 use Rattle.side.specs.declared.Moved.TheVariants as moves
 use Rattle.side.specs.Sides.{Bytes}
-use Rattle.side.specs.Given as goal
+use Rattle.side.specs.Given as given
 use Rattle.side.specs.Prices.{priced}
 use Rattle.side.specs.Moves.{changed, RefusesMove, side, fixed}
-use Rattle.side.proofs.Prices.{price-refuses}
-use Rattle.side.proofs.Changes.{change-refuses}
+use Rattle.side.proofs.Prices.{price_refuses}
+use Rattle.side.proofs.Changes.{change_refuses}
 use Rattle.audit.specs.declared.Checked.TheVariants as checks
 use Rattle.audit.specs.Checker.{checked_of}
 use Rattle.audit.specs.Verdicts as verdicts
-use Rattle.audit.proofs.Answers.{refused-tells}
+use Rattle.audit.proofs.Answers.{refused_tells}
 use Rattle.split.specs.declared.Parted.TheVariants as parted
 use Rattle.split.specs.Splits.{Buffers, Split}
 use Rattle.split.specs.Verdicts as splits
-use Rattle.split.proofs.Answers.{split-refused}
+use Rattle.split.proofs.Answers.{split_refused}
 use Rattle.gate.specs.declared.Gate.{Gate}
 use Rattle.gate.specs.Gates.{good_gate}
 use Rattle.walk.specs.declared.Row.{Row}
@@ -48,21 +48,21 @@ use Rattle.walk.specs.Call.{too_short, refuse_if, if_read, checked_sound, Left, 
 use Rattle.walk.specs.Call as call
 
 -- a refusal's number is one of fourteen
-pub number-few : (why : Refusal) → number_of why ≤ 14
-number-few Layout = omega arith
-number-few Counts = omega arith
-number-few (Module m) = omega arith
-number-few (Net n) = omega arith
-number-few (Pin p) = omega arith
-number-few Marks = omega arith
-number-few refusal.Gate = omega arith
-number-few Buffer = omega arith
-number-few Side = omega arith
-number-few Move = omega arith
-number-few (NetRule n) = omega arith
-number-few (ModuleRule m) = omega arith
-number-few Values = omega arith
-number-few Stuck = omega arith
+pub number_few : (why : Refusal) → number_of why ≤ 14
+number_few Layout = omega arith
+number_few Counts = omega arith
+number_few (Module m) = omega arith
+number_few (Net n) = omega arith
+number_few (Pin p) = omega arith
+number_few Marks = omega arith
+number_few refusal.Gate = omega arith
+number_few Buffer = omega arith
+number_few Side = omega arith
+number_few Move = omega arith
+number_few (NetRule n) = omega arith
+number_few (ModuleRule m) = omega arith
+number_few Values = omega arith
+number_few Stuck = omega arith
 
 -- ---- the reader
 
@@ -70,51 +70,51 @@ number-few Stuck = omega arith
 abbrev Within : ℕ → Found → Type 0
 Within n f = (p : ℕ) → f ≡ At p → p ≤ n
 
-if-within : (t : Bool) (n : ℕ) → Within n (find_if t n)
-if-within true n p e = let u : n ≡ p = cc in omega arith
-if-within false n p e = let z : ◌≡◌ {A = ℕ} 0 1 = cc in absurd (omega arith)
+if_within : (t : Bool) (n : ℕ) → Within n (find_if t n)
+if_within true n p e = let u : n ≡ p = cc in omega arith
+if_within false n p e = let z : ◌≡◌ {A = ℕ} 0 1 = cc in absurd (omega arith)
 
-else-within : (n : ℕ) (f g : Found) → Within n f → Within n g → Within n (or_else f g)
-else-within n (At i) g a b = a
-else-within n Nothing g a b = b
+else_within : (n : ℕ) (f g : Found) → Within n f → Within n g → Within n (or_else f g)
+else_within n (At i) g a b = a
+else_within n Nothing g a b = b
 
-from-within : (n start : ℕ) (f : Found) → ((j : ℕ) → f ≡ At j → start + j ≤ n) → Within n (from start f)
-from-within n start (At j) h p e = let u : start + j ≡ p = cc in omega (arith, h j refl)
-from-within n start Nothing h p e = let z : ◌≡◌ {A = ℕ} 0 1 = cc in absurd (omega arith)
+from_within : (n start : ℕ) (f : Found) → ((j : ℕ) → f ≡ At j → start + j ≤ n) → Within n (from start f)
+from_within n start (At j) h p e = let u : start + j ≡ p = cc in omega (arith, h j refl)
+from_within n start Nothing h p e = let z : ◌≡◌ {A = ℕ} 0 1 = cc in absurd (omega arith)
 
-first-within : (n : ℕ) (f : ℕ → Found) (m : ℕ) → ((k : ℕ) → k < m → Within n (f k)) → Within n (first f m)
+first_within : (n : ℕ) (f : ℕ → Found) (m : ℕ) → ((k : ℕ) → k < m → Within n (f k)) → Within n (first f m)
 unfolding first
-first-within n f zero h p e = let z : ◌≡◌ {A = ℕ} 0 1 = cc in absurd (omega arith)
-first-within n f (suc m) h p e = else-within n (first f m) (f m) (first-within n f m (λ k l. h k (omega arith))) (h m (omega arith)) p e
+first_within n f zero h p e = let z : ◌≡◌ {A = ℕ} 0 1 = cc in absurd (omega arith)
+first_within n f (suc m) h p e = else_within n (first f m) (f m) (first_within n f m (λ k l. h k (omega arith))) (h m (omega arith)) p e
 
 module _ (s : List ℕ) where
-  module-within : Within (modules s) (check3 s)
+  module_within : Within (modules s) (check3 s)
   unfolding check3
-  module-within p e = omega (arith, (lowest-at (bad_module s) (modules s) p e).0)
+  module_within p e = omega (arith, (lowest_at (bad_module s) (modules s) p e).0)
 
-  net-within : Within (nets s) (check4 s)
+  net_within : Within (nets s) (check4 s)
   unfolding check4
-  net-within =
-      else-within (nets s) (lowest (bad_net s) (nets s)) (find_if (not (eqb (first_pin s (nets s)) (pins s))) (nets s))
-      (λ p e. omega (arith, (lowest-at (bad_net s) (nets s) p e).0)) (if-within (not (eqb (first_pin s (nets s)) (pins s))) (nets s))
+  net_within =
+      else_within (nets s) (lowest (bad_net s) (nets s)) (find_if (not (eqb (first_pin s (nets s)) (pins s))) (nets s))
+      (λ p e. omega (arith, (lowest_at (bad_net s) (nets s) p e).0)) (if_within (not (eqb (first_pin s (nets s)) (pins s))) (nets s))
 
-  pin-within : Within (first_pin s (nets s)) (check5 s)
+  pin_within : Within (first_pin s (nets s)) (check5 s)
   unfolding check5
-  pin-within =
-      first-within (first_pin s (nets s)) (bad_pins s) (nets s)
-      (λ n l. from-within (first_pin s (nets s)) (first_pin s n) (lowest (bad_pin_of s n) (pin_count s n)) (λ j e. omega (arith, pin-before s n (nets s) j l (lowest-at (bad_pin_of s n) (pin_count s n) j e).0)))
+  pin_within =
+      first_within (first_pin s (nets s)) (bad_pins s) (nets s)
+      (λ n l. from_within (first_pin s (nets s)) (first_pin s n) (lowest (bad_pin_of s n) (pin_count s n)) (λ j e. omega (arith, pin_before s n (nets s) j l (lowest_at (bad_pin_of s n) (pin_count s n) j e).0)))
 
   -- what check 2 leaves
   record Few : Type 0 where
-    modules-few : modules s ≤ most_modules
-    nets-few : nets s ≤ most_nets
-    pins-few : pins s ≤ most_pins
+    modules_few : modules s ≤ most_modules
+    nets_few : nets s ≤ most_nets
+    pins_few : pins s ≤ most_pins
 
   few : check2 s ≡ Nothing → Few
   unfolding counted
   few e =
-      let c = and-four (leb least_modules (modules s)) (leb (modules s) most_modules) (leb (nets s) most_nets) (leb (pins s) most_pins) (not-false _ (passed _ 0 e)) in
-      record { modules-few = leb-true _ _ c.1; nets-few = leb-true _ _ c.2; pins-few = leb-true _ _ c.3 }
+      let c = and_four (leb least_modules (modules s)) (leb (modules s) most_modules) (leb (nets s) most_nets) (leb (pins s) most_pins) (not-false _ (passed _ 0 e)) in
+      record { modules_few = leb-true _ _ c.1; nets_few = leb-true _ _ c.2; pins_few = leb-true _ _ c.3 }
 
 abbrev pub PlaceFew : Reading → Type 0
 PlaceFew (Good b) = Unit {0}
@@ -125,57 +125,57 @@ named : (f : Found) (w : ℕ → Refusal) (r : Reading) → ((p : ℕ) → f ≡
 named (At p) w r a b = a p refl
 named Nothing w r a b = b refl
 
-pub read-few : (s : List ℕ) → PlaceFew (read_of s)
+pub read_few : (s : List ℕ) → PlaceFew (read_of s)
 unfolding read_of rest_of
-read-few s =
+read_few s =
     named (check1 s) (λ _. Layout) _ (λ p e. omega arith)
     (λ one. named (check2 s) (λ _. Counts) _ (λ p e. omega arith)
     (λ two. let h = few s two in
-    named (check3 s) Module _ (λ p e. omega (arith, h.modules-few, module-within s p e))
-    (λ three. named (check4 s) Net _ (λ p e. omega (arith, h.nets-few, net-within s p e))
-    (λ four. named (check5 s) Pin _ (λ p e. omega (arith, h.pins-few, sum-right s four, pin-within s p e))
+    named (check3 s) Module _ (λ p e. omega (arith, h.modules_few, module_within s p e))
+    (λ three. named (check4 s) Net _ (λ p e. omega (arith, h.nets_few, net_within s p e))
+    (λ four. named (check5 s) Pin _ (λ p e. omega (arith, h.pins_few, sum_right s four, pin_within s p e))
     (λ five. named (check6 s) (λ _. Marks) _ (λ p e. omega arith) (λ six. tt))))))
 
-pub read-place : (s : List ℕ) {why : Refusal} → read_of s ≡ Refused why → place_of why ≤ most_pins
-read-place s e = subst PlaceFew e (read-few s)
+pub read_place : (s : List ℕ) {why : Refusal} → read_of s ≡ Refused why → place_of why ≤ most_pins
+read_place s e = subst PlaceFew e (read_few s)
 
 -- ---- the calls that are given a side
 
-side-few : (s l : List ℕ) {why : Refusal} → goal.Refuses s l why → place_of why ≤ most_pins
-side-few s l (goal.reader e) = read-place s e
-side-few s l (goal.short r h) = omega arith
-side-few s l (goal.misfit r h f) = omega arith
+side_few : (s l : List ℕ) {why : Refusal} → given.Refuses s l why → place_of why ≤ most_pins
+side_few s l (given.reader e) = read_place s e
+side_few s l (given.short r h) = omega arith
+side_few s l (given.misfit r h f) = omega arith
 
-pub price-place : (s l : List ℕ) (why : Refusal) → Bytes l → priced s l ≡ prices.Refused why → place_of why ≤ most_pins
-price-place s l why h e = side-few s l (price-refuses s l h why e)
+pub price_place : (s l : List ℕ) (why : Refusal) → Bytes l → priced s l ≡ prices.Refused why → place_of why ≤ most_pins
+price_place s l why h e = side_few s l (price_refuses s l h why e)
 
-pub move-place : (s l : List ℕ) (m : ℕ) (why : Refusal) → Bytes l → changed s l m ≡ moves.Refused why → place_of why ≤ most_pins
-move-place s l m why h e = go (change-refuses s l m h why e)
+pub move_place : (s l : List ℕ) (m : ℕ) (why : Refusal) → Bytes l → changed s l m ≡ moves.Refused why → place_of why ≤ most_pins
+move_place s l m why h e = go (change_refuses s l m h why e)
   where
     go : {why : Refusal} → RefusesMove s l m why → place_of why ≤ most_pins
-    go (side r) = side-few s l r
+    go (side r) = side_few s l r
     go (fixed r f n) = omega arith
 
 -- ---- the checker: a net that breaks the net rule, a module that breaks the module rule
 
-pub check-place : (s l : List ℕ) (xs : List ℤ) (claim : ℕ) (why : Refusal) → Bytes l → checked_of s l xs claim ≡ checks.Refused why → place_of why ≤ most_pins
-check-place s l xs claim why h e = go (refused-tells s l xs claim h e)
+pub check_place : (s l : List ℕ) (xs : List ℤ) (claim : ℕ) (why : Refusal) → Bytes l → checked_of s l xs claim ≡ checks.Refused why → place_of why ≤ most_pins
+check_place s l xs claim why h e = go (refused_tells s l xs claim h e)
   where
     go : {why : Refusal} → verdicts.Refuses s l xs claim why → place_of why ≤ most_pins
-    go (verdicts.reader e) = read-place s e
+    go (verdicts.reader e) = read_place s e
     go (verdicts.short r h) = omega arith
     go (verdicts.misfit r h k f) = omega arith
-    go (verdicts.net p b) = omega (arith, b.under, (sound s p.reads.0 p.reads.1).few-nets)
-    go (verdicts.free p k b) = omega (arith, b.under, (sound s p.reads.0 p.reads.1).few-modules)
+    go (verdicts.net p b) = omega (arith, b.under, (sound s p.reads.0 p.reads.1).few_nets)
+    go (verdicts.free p k b) = omega (arith, b.under, (sound s p.reads.0 p.reads.1).few_modules)
     go (verdicts.unequal p f c) = omega arith
 
 -- ---- the split
 
-pub split-place : (s : List ℕ) (old new : Buffers) (why : Refusal) → Split s old (parted.Refused why) new → place_of why ≤ most_pins
-split-place s old new why k = go (split-refused s old new why k)
+pub split_place : (s : List ℕ) (old new : Buffers) (why : Refusal) → Split s old (parted.Refused why) new → place_of why ≤ most_pins
+split_place s old new why k = go (split_refused s old new why k)
   where
     go : {why : Refusal} → splits.Refuses s old why → place_of why ≤ most_pins
-    go (splits.reader e) = read-place s e
+    go (splits.reader e) = read_place s e
     go (splits.short r f) = omega arith
 
 -- ---- the walk: with 14 the place is 0
@@ -190,16 +190,16 @@ module _ (s : List ℕ) (g : Gate) (side rows : List ℕ) where
   after (Good b) h = tested (not (good_gate g)) (too_short s side rows) (Good (book_of s)) tt
   after (Refused why) h = h
 
-  checked-few : PlaceFew (call.checked_of s g side rows)
+  checked_few : PlaceFew (call.checked_of s g side rows)
   unfolding call.checked_of
-  checked-few = after (read_of s) (read-few s)
+  checked_few = after (read_of s) (read_few s)
 
   ended : (rs : List Row) (o : Outcome) → (answer (card_of s) rs o).place ≤ most_pins
   ended rs (found x) = omega arith
   ended rs none_left = omega arith
 
-  pub walk-place : (a : Left) → Walked s g side rows a → a.answer.place ≤ most_pins
-  walk-place a = go (call.checked_of s g side rows) checked-few
+  pub walk_place : (a : Left) → Walked s g side rows a → a.answer.place ≤ most_pins
+  walk_place a = go (call.checked_of s g side rows) checked_few
     where
       go : (r : Reading) → PlaceFew r → Comes r s g side rows a → a.answer.place ≤ most_pins
       go (Refused why) h k = rw k h

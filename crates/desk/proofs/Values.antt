@@ -17,20 +17,20 @@ use Rattle.book.specs.Format.{modules, nets, mark, weight, u16, u32, field}
 use Rattle.book.specs.Checks.{most_modules, most_nets, most_pins, read_of}
 use Rattle.book.specs.Cards.{net_of, nets_of}
 use Rattle.book.specs.Sound.{Sound}
-use Rattle.book.proofs.CardLaws.{nets-length, net-at, price-start, price-all}
-use Rattle.book.proofs.Sound.{sound, counts-are}
+use Rattle.book.proofs.CardLaws.{nets-length, net-at, price_start, price_all}
+use Rattle.book.proofs.Sound.{sound, counts_are}
 use Rattle.side.specs.declared.Priced.TheVariants as priced-as
 use Rattle.side.specs.Sides.{side_of, Bytes}
 use Rattle.side.specs.Prices.{most_number, most_price, priced}
-use Rattle.side.proofs.Prices.{price-tells}
+use Rattle.side.proofs.Prices.{price_tells}
 use Rattle.split.specs.declared.Parted.TheVariants as parted
 use Rattle.split.specs.Splits.{Buffers, Split}
-use Rattle.split.proofs.Answers.{split-tells}
+use Rattle.split.proofs.Answers.{split_tells}
 use Rattle.gate.specs.declared.Gate.{Gate}
 use Rattle.walk.specs.Walk.{free}
 use Rattle.walk.specs.Call.{checked_of, Left, Comes, Walked}
 use Rattle.walk.proofs.Call.{checked}
-use Rattle.walk.proofs.Books.{book-rounds}
+use Rattle.walk.proofs.Books.{book_rounds}
 
 -- a number that fits 32 bits is one of 64 with a sign
 pub fits : (n : ℕ) → n < 4294967296 → SFits w64 (pos n)
@@ -39,45 +39,45 @@ fits n h = record { sfits = omega arith }
 -- ---- the counts of a book
 
 pub record Counts (b : Book) : Type 0 where
-  pub modules-few : b.modules ≤ most_modules
-  pub nets-few : b.nets ≤ most_nets
-  pub pins-few : b.pins ≤ most_pins
+  pub modules_few : b.modules ≤ most_modules
+  pub nets_few : b.nets ≤ most_nets
+  pub pins_few : b.pins ≤ most_pins
 
-pub counts-few : (s : List ℕ) (b : Book) → read_of s ≡ Good b → Counts b
-counts-few s b e =
+pub counts_few : (s : List ℕ) (b : Book) → read_of s ≡ Good b → Counts b
+counts_few s b e =
     let h = sound s b e in
-    subst Counts (counts-are s b e) (record { modules-few = h.few-modules; nets-few = h.few-nets; pins-few = h.few-pins })
+    subst Counts (counts_are s b e) (record { modules_few = h.few_modules; nets_few = h.few_nets; pins_few = h.few_pins })
 
 -- ---- a price
 
-cost-most : (x : Side) (n : Net) → cost x n ≤ n.weight
+cost_most : (x : Side) (n : Net) → cost x n ≤ n.weight
 unfolding cost
-cost-most x n = go (crosses x n)
+cost_most x n = go (crosses x n)
   where
     go : (b : Bool) → cond b n.weight 0 ≤ n.weight
     go true = omega arith
     go false = omega arith
 
-weight-most : (s : List ℕ) (n : ℕ) → Bytes s → weight s n ≤ most_number
+weight_most : (s : List ℕ) (n : ℕ) → Bytes s → weight s n ≤ most_number
 unfolding field u16
-weight-most s n h = let at = u32 s 14 + 4 * n in omega (arith, h at, h (at + 1))
+weight_most s n h = let at = u32 s 14 + 4 * n in omega (arith, h at, h (at + 1))
 
 module _ (s : List ℕ) (h : Bytes s) (x : Side) where
-  price-to : (n : ℕ) → n ≤ nets s → price (take n (nets_of s)) x ≤ most_number * n
-  price-to zero l = omega (arith, price-start s x)
-  price-to (suc n) l =
+  price_to : (n : ℕ) → n ≤ nets s → price (take n (nets_of s)) x ≤ most_number * n
+  price_to zero l = omega (arith, price_start s x)
+  price_to (suc n) l =
       let c : price (take (suc n) (nets_of s)) x ≡ price (take n (nets_of s)) x + cost x (net_of s n) =
       price-suc (nets_of s) x n (omega (arith, nets-length s)) ∙ ap (λ (k : Net). price (take n (nets_of s)) x + cost x k) (net-at s n l) in
-      omega (arith, c, price-to n (omega arith), cost-most x (net_of s n), weight-most s n h)
+      omega (arith, c, price_to n (omega arith), cost_most x (net_of s n), weight_most s n h)
 
-  pub price-most : Sound s → price (nets_of s) x ≤ most_price
-  price-most k = omega (arith, price-all s x, price-to (nets s) (omega arith), k.few-nets)
+  pub price_most : Sound s → price (nets_of s) x ≤ most_price
+  price_most k = omega (arith, price_all s x, price_to (nets s) (omega arith), k.few_nets)
 
-pub price-few : (s l : List ℕ) (p : ℕ) → Bytes s → priced s l ≡ priced-as.Price p → p ≤ most_price
-price-few s l p h e = let a = price-tells s l p e in omega (arith, a.is, price-most s h (side_of l) (sound s a.reads.0 a.reads.1))
+pub price_few : (s l : List ℕ) (p : ℕ) → Bytes s → priced s l ≡ priced-as.Price p → p ≤ most_price
+price_few s l p h e = let a = price_tells s l p e in omega (arith, a.is, price_most s h (side_of l) (sound s a.reads.0 a.reads.1))
 
-pub split-few : (s : List ℕ) (old new : Buffers) (p : ℕ) → Bytes s → Split s old (parted.Price p) new → p ≤ most_price
-split-few s old new p h k = let t = split-tells s old new p k in omega (arith, t.holds.price-is, price-most s h (side_of new.near) t.sound)
+pub split_few : (s : List ℕ) (old new : Buffers) (p : ℕ) → Bytes s → Split s old (parted.Price p) new → p ≤ most_price
+split_few s old new p h k = let t = split_tells s old new p k in omega (arith, t.holds.price_is, price_most s h (side_of new.near) t.sound)
 
 -- ---- a count of rounds
 
@@ -91,9 +91,9 @@ count_most x (suc n) = go (x n) (count_most x n)
     go false h = omega arith
 
 module _ (s : List ℕ) (g : Gate) (side rows : List ℕ) where
-  pub rounds-most : (a : Left) → Walked s g side rows a → a.answer.rounds ≤ most_modules + 1
-  rounds-most a = go (checked_of s g side rows) refl
+  pub rounds_most : (a : Left) → Walked s g side rows a → a.answer.rounds ≤ most_modules + 1
+  rounds_most a = go (checked_of s g side rows) refl
     where
       go : (r : Reading) → checked_of s g side rows ≡ r → Comes r s g side rows a → a.answer.rounds ≤ most_modules + 1
       go (Refused why) e k = rw k (omega arith)
-      go (Good b) e k = omega (arith, book-rounds s g side rows a k, count_most (free (mark s)) (modules s), (checked s g side rows b e).reads.few-modules)
+      go (Good b) e k = omega (arith, book_rounds s g side rows a k, count_most (free (mark s)) (modules s), (checked s g side rows b e).reads.few_modules)

@@ -9,7 +9,7 @@ use native.Mathlib.Omega.{arith}
 use lib.ListN.{length, take, drop, get_or, length-drop}
 use lib.Seq.{length-take-le, take-length, drop-drop, take-add}
 use Rattle.line.specs.Card.{Net, Card, all_pins}
-use Rattle.line.proofs.Index.{net_at, start, start-mono, start-in}
+use Rattle.line.proofs.Index.{net_at, start, start_mono, start_in}
 use Rattle.line.proofs.WayFlow.{Valid}
 use Rattle.flow.specs.Search.{Pin, Tables}
 use Rattle.flow.specs.Cards.{nets_from, card_of, Laid, Grid}
@@ -61,14 +61,14 @@ module _ (fs ms : List ℕ) where
           rw (plus_suc e k)
           (omega (arith, from_start (e + 1) ws (omega arith) k (le_of_suc-le-suc l), pins-length e (omega arith), rises e (omega arith)))
 
-      from-pins : (e : ℕ) (ws : List ℕ) → e + length ws ≤ N → all_pins (nets_from fs ms e ws) ≡ take (get_or fs (e + length ws) 0 - get_or fs e 0) (drop (get_or fs e 0) ms)
+      from_pins : (e : ℕ) (ws : List ℕ) → e + length ws ≤ N → all_pins (nets_from fs ms e ws) ≡ take (get_or fs (e + length ws) 0 - get_or fs e 0) (drop (get_or fs e 0) ms)
       unfolding nets_from all_pins
-      from-pins e [] h = rw (add-zero e, none (get_or fs e 0)) refl
+      from_pins e [] h = rw (add-zero e, none (get_or fs e 0)) refl
         where
           none : (n : ℕ) → n - n ≡ 0
           none n = omega arith
-      from-pins e (w ∷ ws) h =
-          rw (from-pins (e + 1) ws (omega arith), plus_suc e (length ws))
+      from_pins e (w ∷ ws) h =
+          rw (from_pins (e + 1) ws (omega arith), plus_suc e (length ws))
           (let x = rises e (omega arith) in let y = far (e + 1) (length ws) (omega arith) in
           join (get_or fs e 0) (get_or fs (e + 1) 0) (get_or fs (e + 1 + length ws) 0) x y)
         where
@@ -86,40 +86,40 @@ module _ (fs ms ws mk : List ℕ) (laid : Laid fs ms ws mk) where
   N : ℕ
   N = length ws
 
-  pub card-made : Made (card_of fs ms ws mk) fs ms ws
+  pub card_made : Made (card_of fs ms ws mk) fs ms ws
   unfolding card_of
-  card-made = record {
+  card_made = record {
     nets = from-length fs ms 0 ws;
     weight = λ e l. ap (λ (n : Net). n.weight) (from_at fs ms 0 ws e l);
     first = λ e l. let b = laid.begins in omega (arith, rw (zero-add e) at (from_start fs ms (length ws) laid.rises laid.ends 0 ws (omega arith) e (omega arith)));
     size = λ e l. let r = laid.rises e l in
         omega (arith, ap (λ (n : Net). length n.pins) (rw (zero-add e) at (from_at fs ms 0 ws e l)), pins-length fs ms (length ws) laid.rises laid.ends e l);
-    pins = from-pins fs ms (length ws) laid.rises laid.ends 0 ws (omega arith) ∙ (let e : length ms - 0 ≡ length ms = omega arith in rw (zero-add (length ws), laid.begins, laid.ends, e) (take-length ms));
+    pins = from_pins fs ms (length ws) laid.rises laid.ends 0 ws (omega arith) ∙ (let e : length ms - 0 ≡ length ms = omega arith in rw (zero-add (length ws), laid.begins, laid.ends, e) (take-length ms));
   }
 
   mem_below : (M m : ℕ) (ps : List ℕ) → ((p : ℕ) → p < length ps → get_or ps p 0 < M) → Memᴰ m ps → m < M
   mem_below M m ps h (Memᴰ.head e) = rw e (h 0 (omega arith))
   mem_below M m (q ∷ ps) h (Memᴰ.tail k) = mem_below M m ps (λ p l. h (suc p) (omega arith)) k
 
-  pub card-valid : Valid (card_of fs ms ws mk)
+  pub card_valid : Valid (card_of fs ms ws mk)
   unfolding card_of
-  card-valid = record {
-    pins = λ m k. mem_below (length mk) m ms laid.below (subst (λ (l : List ℕ). Memᴰ m l) card-made.pins k);
+  card_valid = record {
+    pins = λ m k. mem_below (length mk) m ms laid.below (subst (λ (l : List ℕ). Memᴰ m l) card_made.pins k);
     marks = laid.marks;
   }
 
-  pub card-modules : (card_of fs ms ws mk).modules ≡ length mk
+  pub card_modules : (card_of fs ms ws mk).modules ≡ length mk
   unfolding card_of
-  card-modules = refl
+  card_modules = refl
 
-  pub card-mark : (m : ℕ) → (card_of fs ms ws mk).mark m ≡ get_or mk m 0
+  pub card_mark : (m : ℕ) → (card_of fs ms ws mk).mark m ≡ get_or mk m 0
   unfolding card_of
-  card-mark m = refl
+  card_mark m = refl
 
 -- the net of each pin
 module _ (c : Card) (fs ms ws nt at pl : List ℕ) (M : ℕ) (made : Made c fs ms ws) (tables : Tables fs ms ws nt at pl M) where
-  pub grid-of : Grid c ms nt
-  grid-of = record {
+  pub grid_of : Grid c ms nt
+  grid_of = record {
     pins = made.pins;
     net = λ a l. let x = (tables.net a l).0 in let y = made.nets in omega arith;
     low = λ a l. let p = tables.net a l in let x = p.1.low in let y = made.first (get_or nt a 0) p.0 in omega arith;
@@ -127,8 +127,8 @@ module _ (c : Card) (fs ms ws nt at pl : List ℕ) (M : ℕ) (made : Made c fs m
   }
 
 -- only one net has a pin
-pub grid-one : (c : Card) (ms nt : List ℕ) → Grid c ms nt → (e i : ℕ) → e < length c.nets → i < length (net_at c.nets e).pins → get_or nt (start c.nets e + i) 0 ≡ e
-grid-one c ms nt g e i l k = go (ℕ_discrete n e)
+pub grid_one : (c : Card) (ms nt : List ℕ) → Grid c ms nt → (e i : ℕ) → e < length c.nets → i < length (net_at c.nets e).pins → get_or nt (start c.nets e + i) 0 ≡ e
+grid_one c ms nt g e i l k = go (ℕ_discrete n e)
   where
     p : ℕ
     p = start c.nets e + i
@@ -137,21 +137,21 @@ grid-one c ms nt g e i l k = go (ℕ_discrete n e)
     n = get_or nt p 0
 
     lp : p < length ms
-    lp = omega (arith, start-in c.nets e l, ap length g.pins)
+    lp = omega (arith, start_in c.nets e l, ap length g.pins)
 
     go : Dec (n ≡ e) → n ≡ e
     go (yes q) = q
     go (no q) = ⊎_elim
-        (λ h. absurd (omega (arith, start-mono c.nets n e h l, g.high p lp)))
-        (λ h. absurd (omega (arith, start-mono c.nets e n (omega (arith, q)) (g.net p lp), g.low p lp)))
+        (λ h. absurd (omega (arith, start_mono c.nets n e h l, g.high p lp)))
+        (λ h. absurd (omega (arith, start_mono c.nets e n (omega (arith, q)) (g.net p lp), g.low p lp)))
         (split n e)
 
 -- the net among whose pins a pin is, is the one that nt names
-pub run-net : (c : Card) (fs ms ws nt : List ℕ) → Made c fs ms ws → Grid c ms nt → (n p : ℕ) → n < length ws → Pin (get_or fs n 0) (get_or fs (n + 1) 0) p → get_or nt p 0 ≡ n
-run-net c fs ms ws nt made grid n p l on =
+pub run_net : (c : Card) (fs ms ws nt : List ℕ) → Made c fs ms ws → Grid c ms nt → (n p : ℕ) → n < length ws → Pin (get_or fs n 0) (get_or fs (n + 1) 0) p → get_or nt p 0 ≡ n
+run_net c fs ms ws nt made grid n p l on =
     let f = made.first n l in
     let z = made.size n l in
     let low = on.low in
     let high = on.high in
     let at : start c.nets n + (p - start c.nets n) ≡ p = omega arith in
-    subst (λ (j : ℕ). get_or nt j 0 ≡ n) at (grid-one c ms nt grid n (p - start c.nets n) (omega (arith, l, made.nets)) (omega arith))
+    subst (λ (j : ℕ). get_or nt j 0 ≡ n) at (grid_one c ms nt grid n (p - start c.nets n) (omega (arith, l, made.nets)) (omega arith))

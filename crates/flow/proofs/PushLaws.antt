@@ -15,20 +15,20 @@ use mir.Syntax.{w32}
 use mir.Val.{to_z, of_z, hbits}
 use mir.Facts.{to_z-of_z}
 use borrow.Author.Tests.{ne_eqb}
-use Rattle.flow.proofs.Numbers.{read_back, plus-fits, minus-fits}
+use Rattle.flow.proofs.Numbers.{read_back, plus_fits, minus_fits}
 use lib.Dec.{eqb}
 use Rattle.line.specs.Card.{Card, all_pins}
 use Rattle.line.specs.Flow.{sent, taken, total_sent, NetRule}
 use Rattle.line.proofs.Ways.{plainly}
 use Rattle.line.proofs.Index.{net_at, start, numbers, each_at}
-use Rattle.line.proofs.Push.{push, push-sum, full, numbers-same, numbers-other}
-use Rattle.line.proofs.Path.{Step, pin_of, tail, Sound, Spare, AllOf, LeadsBack, Ready, ready-step, push_step, push_all, step-rules, step-length}
+use Rattle.line.proofs.Push.{push, push-sum, full, numbers_same, numbers_other}
+use Rattle.line.proofs.Path.{Step, pin_of, tail, Sound, Spare, AllOf, LeadsBack, Ready, ready_step, push_step, push_all, step_rules, step-length}
 use Rattle.line.proofs.Tree.{walk}
-use Rattle.line.proofs.Search.{number-sent, number-taken}
+use Rattle.line.proofs.Search.{number_sent, number_taken}
 use Rattle.flow.specs.Search.{In, rank, left, kind, entered}
 use Rattle.flow.specs.Cards.{Small, Sums, up_of}
 use Rattle.flow.specs.Push.{room_at, way_room, Trod, Ground, Rest, pushed_all, PushedWay, new_sum, Pushable}
-use Rattle.flow.proofs.TreeLaws.{number_at, pin-global}
+use Rattle.flow.proofs.TreeLaws.{number_at, pin_global}
 
 -- on the way: from whatever card the push began, d is still to be pushed from u on, and what comes of it is what was to come
 abbrev pub OnWay : List ℕ → List ℕ → List ℕ → List ℕ → List ℕ → List ℤ → ℕ → ℕ → List ℕ → List ℤ → ℕ → Type 0
@@ -39,44 +39,44 @@ OnWay ms nt mk w sm₀ fl₀ d z sm fl u =
 -- ---- how much a step can carry
 
 module _ (ws nt sm : List ℕ) (fl : List ℤ) (x : ℕ) where
-  pub room-1 : {r : ℕ} → kind x ≡ 1 → r ≡ taken (get_or fl (left x) (pos 0)) → r ≡ room_at ws nt sm fl x
-  room-1 e h = rw e h
+  pub room_1 : {r : ℕ} → kind x ≡ 1 → r ≡ taken (get_or fl (left x) (pos 0)) → r ≡ room_at ws nt sm fl x
+  room_1 e h = rw e h
 
-  pub room-2 : {r : ℕ} → kind x ≡ 2 → r ≡ sent (get_or fl (entered x) (pos 0)) → r ≡ room_at ws nt sm fl x
-  room-2 e h = rw e h
+  pub room_2 : {r : ℕ} → kind x ≡ 2 → r ≡ sent (get_or fl (entered x) (pos 0)) → r ≡ room_at ws nt sm fl x
+  room_2 e h = rw e h
 
   pub room_0 : {r : ℕ} → (kind x ≡ 1 → ⊥) → (kind x ≡ 2 → ⊥) → r ≡ get_or ws (get_or nt (left x) 0) 0 - get_or sm (get_or nt (left x) 0) 0 → r ≡ room_at ws nt sm fl x
   room_0 p q h = rw (ne_eqb (kind x) 1 p, ne_eqb (kind x) 2 q) h
 
 -- ---- one push, as the code makes it
 
-pub plus-back : {r : ℤ} (z : ℤ) (d : ℕ) → mag z < 2 ^ hbits w32 → Small z → d ≤ 65535 → r ≡ to_z w32 (of_z w32 z) +ℤ pos d → to_z w32 (of_z w32 r) ≡ z +ℤ pos d
-plus-back z d g s l e =
-    ap (λ (y : ℤ). to_z w32 (of_z w32 y)) (e ∙ ap (λ (y : ℤ). y +ℤ pos d) (read_back z g)) ∙ to_z-of_z {w = w32} {z = z +ℤ pos d} (plus-fits z d s l)
+pub plus_back : {r : ℤ} (z : ℤ) (d : ℕ) → mag z < 2 ^ hbits w32 → Small z → d ≤ 65535 → r ≡ to_z w32 (of_z w32 z) +ℤ pos d → to_z w32 (of_z w32 r) ≡ z +ℤ pos d
+plus_back z d g s l e =
+    ap (λ (y : ℤ). to_z w32 (of_z w32 y)) (e ∙ ap (λ (y : ℤ). y +ℤ pos d) (read_back z g)) ∙ to_z-of_z {w = w32} {z = z +ℤ pos d} (plus_fits z d s l)
 
-pub minus-back : {r : ℤ} (z : ℤ) (d : ℕ) → mag z < 2 ^ hbits w32 → Small z → d ≤ 65535 → r ≡ to_z w32 (of_z w32 z) +ℤ neg_ℤ (pos d) → to_z w32 (of_z w32 r) ≡ z +ℤ neg_ℤ (pos d)
-minus-back z d g s l e =
-    ap (λ (y : ℤ). to_z w32 (of_z w32 y)) (e ∙ ap (λ (y : ℤ). y +ℤ neg_ℤ (pos d)) (read_back z g)) ∙ to_z-of_z {w = w32} {z = z +ℤ neg_ℤ (pos d)} (minus-fits z d s l)
+pub minus_back : {r : ℤ} (z : ℤ) (d : ℕ) → mag z < 2 ^ hbits w32 → Small z → d ≤ 65535 → r ≡ to_z w32 (of_z w32 z) +ℤ neg_ℤ (pos d) → to_z w32 (of_z w32 r) ≡ z +ℤ neg_ℤ (pos d)
+minus_back z d g s l e =
+    ap (λ (y : ℤ). to_z w32 (of_z w32 y)) (e ∙ ap (λ (y : ℤ). y +ℤ neg_ℤ (pos d)) (read_back z g)) ∙ to_z-of_z {w = w32} {z = z +ℤ neg_ℤ (pos d)} (minus_fits z d s l)
 
-pub push-code : (fl : List ℤ) (a b d : ℕ) {A B : ℕ} {more less : ℤ} → A ≡ a → B ≡ b → a ≢ b → more ≡ get_or fl A (pos 0) +ℤ pos d → less ≡ get_or fl B (pos 0) +ℤ neg_ℤ (pos d) →
+pub push_code : (fl : List ℤ) (a b d : ℕ) {A B : ℕ} {more less : ℤ} → A ≡ a → B ≡ b → a ≢ b → more ≡ get_or fl A (pos 0) +ℤ pos d → less ≡ get_or fl B (pos 0) +ℤ neg_ℤ (pos d) →
     set (set fl A more) B less ≡ push fl a b d
 unfolding push
-push-code fl a b d {A} {B} {more} {less} ea eb ne em el =
+push_code fl a b d {A} {B} {more} {less} ea eb ne em el =
     rw (em, el, ea, eb)
     (ap (λ (y : ℤ). set (set fl a (get_or fl a (pos 0) +ℤ pos d)) b (y +ℤ neg_ℤ (pos d)))
     (sym (get_or-set_other fl a b (get_or fl a (pos 0) +ℤ pos d) (pos 0) (λ e. ne (sym e)))))
 
-pub sums-code : (sm : List ℕ) {n N v w : ℕ} → n ≡ N → v ≡ w → set sm n v ≡ set sm N w
-sums-code sm en ev = rw (en, ev) refl
+pub sums_code : (sm : List ℕ) {n N v w : ℕ} → n ≡ N → v ≡ w → set sm n v ≡ set sm N w
+sums_code sm en ev = rw (en, ev) refl
 
 -- ---- the least room of a way, as the code goes along it
 
 module _ (ms ws nt mk w sm : List ℕ) (fl : List ℤ) where
-  pub way-more : (k d u t : ℕ) → rank (get_or w u 0) < k → (get_or mk u 0 ≡ 1 → ⊥) → rank (get_or w (get_or ms (left (get_or w u 0)) 0) 0) < rank (get_or w u 0) → min d (way_room ms ws nt mk w sm fl k u) ≡ t →
+  pub way_more : (k d u t : ℕ) → rank (get_or w u 0) < k → (get_or mk u 0 ≡ 1 → ⊥) → rank (get_or w (get_or ms (left (get_or w u 0)) 0) 0) < rank (get_or w u 0) → min d (way_room ms ws nt mk w sm fl k u) ≡ t →
       (k' : ℕ) × (rank (get_or w (get_or ms (left (get_or w u 0)) 0) 0) < k') × (min (min d (room_at ws nt sm fl (get_or w u 0))) (way_room ms ws nt mk w sm fl k' (get_or ms (left (get_or w u 0)) 0)) ≡ t)
   unfolding way_room
-  way-more zero d u t r n l e = absurd (not-suc-le-zero r)
-  way-more (suc k) d u t r n l e = (k, omega arith, mins d _ _ ∙ (rw (ne_eqb (get_or mk u 0) 1 n) at e))
+  way_more zero d u t r n l e = absurd (not-suc-le-zero r)
+  way_more (suc k) d u t r n l e = (k, omega arith, mins d _ _ ∙ (rw (ne_eqb (get_or mk u 0) 1 n) at e))
     where
       mins : (x y z : ℕ) → min (min x y) z ≡ min x (min y z)
       mins x y z = omega arith
@@ -86,17 +86,17 @@ module _ (ms ws nt mk w sm : List ℕ) (fl : List ℤ) where
   way_end zero d u t r n l e = absurd (not-suc-le-zero r)
   way_end (suc k) d u t r n l e = let q : min d 65535 ≡ t = (rw n at e) in omega arith
 
-  pub way-top : (k u : ℕ) → way_room ms ws nt mk w sm fl k u ≤ 65535
+  pub way_top : (k u : ℕ) → way_room ms ws nt mk w sm fl k u ≤ 65535
   unfolding way_room
-  way-top zero u = omega arith
-  way-top (suc k) u = go (room_at ws nt sm fl (get_or w u 0)) (way_room ms ws nt mk w sm fl k (get_or ms (left (get_or w u 0)) 0)) (eqb (get_or mk u 0) 1) (way-top k (get_or ms (left (get_or w u 0)) 0))
+  way_top zero u = omega arith
+  way_top (suc k) u = go (room_at ws nt sm fl (get_or w u 0)) (way_room ms ws nt mk w sm fl k (get_or ms (left (get_or w u 0)) 0)) (eqb (get_or mk u 0) 1) (way_top k (get_or ms (left (get_or w u 0)) 0))
     where
       go : (x y : ℕ) (b : Bool) → y ≤ 65535 → cond b 65535 (min x y) ≤ 65535
       go x y true h = omega arith
       go x y false h = omega arith
 
-  pub least-top : (k u : ℕ) → min 65535 (way_room ms ws nt mk w sm fl k u) ≡ way_room ms ws nt mk w sm fl k u
-  least-top k u = omega (arith, way-top k u)
+  pub least_top : (k u : ℕ) → min 65535 (way_room ms ws nt mk w sm fl k u) ≡ way_room ms ws nt mk w sm fl k u
+  least_top k u = omega (arith, way_top k u)
 
 -- ---- the way that is left
 
@@ -163,30 +163,30 @@ module _ (c : Card) (ms nt mk w : List ℕ) (g : Ground c ms nt mk w) (sm : List
   unfolding B
   at_b =
       let q : start c.nets (get_or nt (entered (get_or w u 0)) 0) ≡ start c.nets (get_or nt (left (get_or w u 0)) 0) = ap (start c.nets) trod.same in
-      omega (arith, g.grid.low (entered (get_or w u 0)) trod.in-entered)
+      omega (arith, g.grid.low (entered (get_or w u 0)) trod.in_entered)
 
-  pub rest-tail : tail c (up_of c nt w u) ≡ get_or ms (left (get_or w u 0)) 0
+  pub rest_tail : tail c (up_of c nt w u) ≡ get_or ms (left (get_or w u 0)) 0
   unfolding A
-  rest-tail = pin-global c ms g.grid.pins t.net t.a sound.net sound.a ∙ ap (λ (i : ℕ). get_or ms i 0) at_a
+  rest_tail = pin_global c ms g.grid.pins t.net t.a sound.net sound.a ∙ ap (λ (i : ℕ). get_or ms i 0) at_a
 
   apart : A ≢ B
   apart q = sound.moves (ap (pin_of c t.net) (let x = at_a in let y = at_b in let z : t.a ≡ t.b = omega arith in z))
 
-  pushed-step : push_step c fl d t ≡ push fl A B d
+  pushed_step : push_step c fl d t ≡ push fl A B d
   unfolding push_step
-  pushed-step = ap₂ (λ (i j : ℕ). push fl i j d) at_a at_b
+  pushed_step = ap₂ (λ (i j : ℕ). push fl i j d) at_a at_b
 
   rule : NetRule (net_at c.nets t.net) (numbers c.nets fl t.net)
   rule = each_at NetRule c.nets fl rest.rules t.net sound.net
 
-  num-a : get_or (numbers c.nets fl t.net) t.a (pos 0) ≡ get_or fl A (pos 0)
-  num-a = number_at c.nets fl t.net t.a sound.a ∙ ap (λ (i : ℕ). get_or fl i (pos 0)) at_a
+  num_a : get_or (numbers c.nets fl t.net) t.a (pos 0) ≡ get_or fl A (pos 0)
+  num_a = number_at c.nets fl t.net t.a sound.a ∙ ap (λ (i : ℕ). get_or fl i (pos 0)) at_a
 
-  num-b : get_or (numbers c.nets fl t.net) t.b (pos 0) ≡ get_or fl B (pos 0)
-  num-b = number_at c.nets fl t.net t.b sound.b ∙ ap (λ (i : ℕ). get_or fl i (pos 0)) at_b
+  num_b : get_or (numbers c.nets fl t.net) t.b (pos 0) ≡ get_or fl B (pos 0)
+  num_b = number_at c.nets fl t.net t.b sound.b ∙ ap (λ (i : ℕ). get_or fl i (pos 0)) at_b
 
-  pins-apart : t.a ≢ t.b
-  pins-apart q = sound.moves (ap (pin_of c t.net) q)
+  pins_apart : t.a ≢ t.b
+  pins_apart q = sound.moves (ap (pin_of c t.net) q)
 
   long : length (all_pins c.nets) ≤ length fl
   long = omega (arith, ap length g.grid.pins, rest.flows)
@@ -196,49 +196,49 @@ module _ (c : Card) (ms nt mk w : List ℕ) (g : Ground c ms nt mk w) (sm : List
 
   small : (i p : ℕ) → get_or (numbers c.nets fl t.net) i (pos 0) ≡ get_or fl p (pos 0) → Small (get_or fl p (pos 0))
   small i p q = subst Small q (let y = g.weights t.net sound.net in record {
-    sent = omega (arith, number-sent (net_at c.nets t.net) (numbers c.nets fl t.net) rule i);
-    taken = omega (arith, number-taken (net_at c.nets t.net) (numbers c.nets fl t.net) rule i);
+    sent = omega (arith, number_sent (net_at c.nets t.net) (numbers c.nets fl t.net) rule i);
+    taken = omega (arith, number_taken (net_at c.nets t.net) (numbers c.nets fl t.net) rule i);
   })
 
-  pub rest-pushable : Pushable fl sm nt d (left (get_or w u 0)) (entered (get_or w u 0))
+  pub rest_pushable : Pushable fl sm nt d (left (get_or w u 0)) (entered (get_or w u 0))
   unfolding A B
-  rest-pushable = record {
-    in-a = omega (arith, trod.in_left, rest.flows);
-    in_b = omega (arith, trod.in-entered, rest.flows);
+  rest_pushable = record {
+    in_a = omega (arith, trod.in_left, rest.flows);
+    in_b = omega (arith, trod.in_entered, rest.flows);
     nts = omega (arith, g.trail.nts, rest.flows);
     few = omega (arith, g.trail.few, rest.flows);
     apart = apart;
     amount = ld;
     net = omega (arith, trod.net, rest.sums.len);
-    small-a = small t.a (left (get_or w u 0)) num-a;
-    small_b = small t.b (entered (get_or w u 0)) num-b;
+    small_a = small t.a (left (get_or w u 0)) num_a;
+    small_b = small t.b (entered (get_or w u 0)) num_b;
     sum = omega (arith, rest.sums.sum t.net sound.net, rule.fits, g.weights t.net sound.net);
-    held = omega (arith, rest.sums.sum t.net sound.net, two-sum (numbers c.nets fl t.net) t.a t.b pins-apart, ap sent num-a, ap sent num-b);
+    held = omega (arith, rest.sums.sum t.net sound.net, two-sum (numbers c.nets fl t.net) t.a t.b pins_apart, ap sent num_a, ap sent num_b);
   }
 
   abbrev sm' : List ℕ
   sm' = set sm (get_or nt (left (get_or w u 0)) 0) (new_sum fl (left (get_or w u 0)) (entered (get_or w u 0)) d (get_or sm (get_or nt (left (get_or w u 0)) 0) 0))
 
-  new-sums : Sums c sm' (push_step c fl d t)
+  new_sums : Sums c sm' (push_step c fl d t)
   unfolding push_step A B
-  new-sums = record {
+  new_sums = record {
     len = length-set sm t.net (new_sum fl A B d (get_or sm t.net 0)) ∙ rest.sums.len;
     sum = λ j l. go j l (ℕ_discrete j t.net);
   }
     where
       go : (j : ℕ) → j < length c.nets → Dec (j ≡ t.net) → get_or sm' j 0 ≡ total_sent (numbers c.nets (push fl (start c.nets t.net + t.a) (start c.nets t.net + t.b) d) j)
       go j l (no q) = get_or-set_other sm t.net j (new_sum fl A B d (get_or sm t.net 0)) 0 q ∙ rest.sums.sum j l
-          ∙ ap total_sent (sym (numbers-other c.nets fl t.net t.a t.b d sound.net sound.a sound.b j l q))
+          ∙ ap total_sent (sym (numbers_other c.nets fl t.net t.a t.b d sound.net sound.a sound.b j l q))
       go j l (yes q) =
-          rw (q, get_or-set_same sm t.net (new_sum fl A B d (get_or sm t.net 0)) 0 (omega (arith, sound.net, rest.sums.len)), numbers-same c.nets fl t.net t.a t.b d sound.net sound.a sound.b)
+          rw (q, get_or-set_same sm t.net (new_sum fl A B d (get_or sm t.net 0)) 0 (omega (arith, sound.net, rest.sums.len)), numbers_same c.nets fl t.net t.a t.b d sound.net sound.a sound.b)
           (omega (
             arith,
             rest.sums.sum t.net sound.net,
-            push-sum (numbers c.nets fl t.net) t.a t.b d (rw size sound.a) (rw size sound.b) pins-apart,
-            ap sent num-a,
-            ap sent num-b,
-            ap (λ (z : ℤ). sent (z +ℤ pos d)) num-a,
-            ap (λ (z : ℤ). sent (z +ℤ neg_ℤ (pos d))) num-b,
+            push-sum (numbers c.nets fl t.net) t.a t.b d (rw size sound.a) (rw size sound.b) pins_apart,
+            ap sent num_a,
+            ap sent num_b,
+            ap (λ (z : ℤ). sent (z +ℤ pos d)) num_a,
+            ap (λ (z : ℤ). sent (z +ℤ neg_ℤ (pos d))) num_b,
           ))
 
   -- after the push the rest of the way is left, and what is to come of it is what was to come
@@ -248,20 +248,20 @@ module _ (c : Card) (ms nt mk w : List ℕ) (g : Ground c ms nt mk w) (sm : List
   rest_more = (
     parts.0,
     (
-      rw (← pushed-step, ← rest-tail) (record {
-        ready = ready-step plainly c d fl t left_over ready;
+      rw (← pushed_step, ← rest_tail) (record {
+        ready = ready_step plainly c d fl t left_over ready;
         leads = (rest.leads.0, rest.leads.1, (subst (λ (ts : List Step). LeadsBack c rest.leads.0 ts u) parts.1 rest.leads.2).1);
-        rules = step-rules plainly c fl d long t sound spare rest.rules;
-        sums = new-sums;
+        rules = step_rules plainly c fl d long t sound spare rest.rules;
+        sums = new_sums;
         flows = step-length plainly c fl d long t sound spare ∙ rest.flows;
-        from = subst (λ (i : ℕ). In w i) (sym rest-tail) trod.from;
+        from = subst (λ (i : ℕ). In w i) (sym rest_tail) trod.from;
       }),
-      rw (← pushed-step, ← rest-tail) (sym (ap (λ (ts : List Step). push_all c fl d ts) parts.1)),
+      rw (← pushed_step, ← rest_tail) (sym (ap (λ (ts : List Step). push_all c fl d ts) parts.1)),
     ),
   )
 
-pub way-start : (ms nt mk w sm : List ℕ) (fl : List ℤ) (d z : ℕ) → OnWay ms nt mk w sm fl d z sm fl z
-way-start ms nt mk w sm fl d z c g r = (suc (length mk), (r, refl))
+pub way_start : (ms nt mk w sm : List ℕ) (fl : List ℤ) (d z : ℕ) → OnWay ms nt mk w sm fl d z sm fl z
+way_start ms nt mk w sm fl d z c g r = (suc (length mk), (r, refl))
 
 pub way_step : (ms nt mk w sm₀ : List ℕ) (fl₀ : List ℤ) (d z : ℕ) (sm : List ℕ) (fl : List ℤ) (u : ℕ) {sm' : List ℕ} {fl' : List ℤ} {u' : ℕ} → OnWay ms nt mk w sm₀ fl₀ d z sm fl u → get_or mk u 0 ≢ 1 → d ≤ 65535 →
     fl' ≡ push fl (left (get_or w u 0)) (entered (get_or w u 0)) d →
@@ -277,8 +277,8 @@ unfolding walk
 walk_end c up zero u e = refl
 walk_end c up (suc k) u e = rw e refl
 
-pub way-done : (ms nt mk w sm₀ : List ℕ) (fl₀ : List ℤ) (d z : ℕ) (sm : List ℕ) (fl : List ℤ) (u : ℕ) → OnWay ms nt mk w sm₀ fl₀ d z sm fl u → get_or mk u 0 ≡ 1 → PushedWay ms nt mk w sm₀ fl₀ d z sm fl
+pub way_done : (ms nt mk w sm₀ : List ℕ) (fl₀ : List ℤ) (d z : ℕ) (sm : List ℕ) (fl : List ℤ) (u : ℕ) → OnWay ms nt mk w sm₀ fl₀ d z sm fl u → get_or mk u 0 ≡ 1 → PushedWay ms nt mk w sm₀ fl₀ d z sm fl
 unfolding push_all
-way-done ms nt mk w sm₀ fl₀ d z sm fl u inv e c g r =
+way_done ms nt mk w sm₀ fl₀ d z sm fl u inv e c g r =
     let i = inv c g r in
     (sym (ap (λ (ts : List Step). push_all c fl d ts) (walk_end c (up_of c nt w) i.0 u (g.mark u ∙ e))) ∙ i.1.1, i.1.0.sums)

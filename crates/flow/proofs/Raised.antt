@@ -13,42 +13,42 @@ use Rattle.line.specs.Card.{Card, Side}
 use Rattle.line.specs.Flow.{Fair, value}
 use Rattle.line.proofs.Ways.{plainly}
 use Rattle.line.proofs.WayFlow.{Valid}
-use Rattle.line.proofs.Duality.{weak-duality}
-use Rattle.line.proofs.Search.{Still, still-fair}
+use Rattle.line.proofs.Duality.{weak_duality}
+use Rattle.line.proofs.Search.{Still, still_fair}
 use Rattle.flow.specs.Search.{Tables}
 use Rattle.flow.specs.Cards.{card_of, Laid, Small}
 use Rattle.flow.specs.Raise.{Engine, Raised, Greatest}
-use Rattle.flow.proofs.CardLaws.{card-made, grid-of}
-use Rattle.flow.proofs.RaiseLaws.{small-number}
+use Rattle.flow.proofs.CardLaws.{card_made, grid_of}
+use Rattle.flow.proofs.RaiseLaws.{small_number}
 
 -- before raise: a flow of zeros
-pub zeros-more : (fl : List ℤ) (i : ℕ) → i < length fl → ((p : ℕ) → p < i → get_or fl p (pos 0) ≡ pos 0) → (p : ℕ) → p < i + 1 → get_or (set fl i (pos 0)) p (pos 0) ≡ pos 0
-zeros-more fl i l h = below_more _ i (λ p k. get_or-set_other fl i p (pos 0) (pos 0) (omega arith) ∙ h p k) (get_or-set_same fl i (pos 0) (pos 0) l)
+pub zeros_more : (fl : List ℤ) (i : ℕ) → i < length fl → ((p : ℕ) → p < i → get_or fl p (pos 0) ≡ pos 0) → (p : ℕ) → p < i + 1 → get_or (set fl i (pos 0)) p (pos 0) ≡ pos 0
+zeros_more fl i l h = below_more _ i (λ p k. get_or-set_other fl i p (pos 0) (pos 0) (omega arith) ∙ h p k) (get_or-set_same fl i (pos 0) (pos 0) l)
 
-pub zeros-still : (fl : List ℤ) → ((p : ℕ) → p < length fl → get_or fl p (pos 0) ≡ pos 0) → Still fl
+pub zeros_still : (fl : List ℤ) → ((p : ℕ) → p < length fl → get_or fl p (pos 0) ≡ pos 0) → Still fl
 unfolding Still
-zeros-still [] h = tt
-zeros-still (x ∷ fl) h = (h 0 (omega arith), zeros-still fl (λ p l. h (suc p) (omega arith)))
+zeros_still [] h = tt
+zeros_still (x ∷ fl) h = (h 0 (omega arith), zeros_still fl (λ p l. h (suc p) (omega arith)))
 
-pub zeros-fair : (c : Card) (fl : List ℤ) → Still fl → Fair c fl
-zeros-fair c fl z = (still-fair plainly c fl z).fair
+pub zeros_fair : (c : Card) (fl : List ℤ) → Still fl → Fair c fl
+zeros_fair c fl z = (still_fair plainly c fl z).fair
 
 -- after raise: no fair flow has a higher value
-pub raised-most : (c : Card) → Valid c → (ms sm : List ℕ) (fl : List ℤ) (s : Side) → Raised c ms sm fl s → (xs : List ℤ) → Fair c xs → value c xs ≤ℤ value c fl
-raised-most c valid ms sm fl s r xs fair = subst (λ (v : ℤ). value c xs ≤ℤ v) (sym r.value) (weak-duality c valid xs fair s r.near.cheapest.separates)
+pub raised_most : (c : Card) → Valid c → (ms sm : List ℕ) (fl : List ℤ) (s : Side) → Raised c ms sm fl s → (xs : List ℤ) → Fair c xs → value c xs ≤ℤ value c fl
+raised_most c valid ms sm fl s r xs fair = subst (λ (v : ℤ). value c xs ≤ℤ v) (sym r.value) (weak_duality c valid xs fair s r.near.cheapest.separates)
 
 -- each number is within -65535 .. 65535
-pub raised-small : (fs ms ws nt at pl mk sm : List ℕ) (fl : List ℤ) (s : Side) → Laid fs ms ws mk → Tables fs ms ws nt at pl (length mk) → ((e : ℕ) → e < length ws → get_or ws e 0 ≤ 65535) →
+pub raised_small : (fs ms ws nt at pl mk sm : List ℕ) (fl : List ℤ) (s : Side) → Laid fs ms ws mk → Tables fs ms ws nt at pl (length mk) → ((e : ℕ) → e < length ws → get_or ws e 0 ≤ 65535) →
     Raised (card_of fs ms ws mk) ms sm fl s → (p : ℕ) → p < length ms → Small (get_or fl p (pos 0))
-raised-small fs ms ws nt at pl mk sm fl s laid tables heavy r =
-    let made = card-made fs ms ws mk laid in
-    small-number (card_of fs ms ws mk) ms nt (grid-of (card_of fs ms ws mk) fs ms ws nt at pl (length mk) made tables)
+raised_small fs ms ws nt at pl mk sm fl s laid tables heavy r =
+    let made = card_made fs ms ws mk laid in
+    small_number (card_of fs ms ws mk) ms nt (grid_of (card_of fs ms ws mk) fs ms ws nt at pl (length mk) made tables)
     (λ e l. let k : e < length ws = omega (arith, made.nets) in omega (arith, made.weight e k, heavy e k)) fl r.fair.nets
 
 -- before far: the flow that was raised, and the same room for the search
-pub raised-greatest : (c : Card) (ms sm : List ℕ) (fl : List ℤ) (s : Side) → Raised c ms sm fl s → Greatest c ms sm fl
-raised-greatest c ms sm fl s r = record { steady = record { fair = r.fair; sums = r.sums; flows = r.flows }; side = s; separates = r.near.cheapest.separates; value = r.value }
+pub raised_greatest : (c : Card) (ms sm : List ℕ) (fl : List ℤ) (s : Side) → Raised c ms sm fl s → Greatest c ms sm fl
+raised_greatest c ms sm fl s r = record { steady = record { fair = r.fair; sums = r.sums; flows = r.flows }; side = s; separates = r.near.cheapest.separates; value = r.value }
 
-pub engine-kept : (fs ms ws nt at pl mk : List ℕ) {q w sn sm q' w' sn' sm' : List ℕ} → length q' ≡ length q → length w' ≡ length w → length sn' ≡ length sn → length sm' ≡ length sm →
+pub engine_kept : (fs ms ws nt at pl mk : List ℕ) {q w sn sm q' w' sn' sm' : List ℕ} → length q' ≡ length q → length w' ≡ length w → length sn' ≡ length sn → length sm' ≡ length sm →
     Engine fs ms ws nt at pl mk q w sn sm → Engine fs ms ws nt at pl mk q' w' sn' sm'
-engine-kept fs ms ws nt at pl mk eq ew en es e = record { laid = e.laid; tables = e.tables; pins = e.pins; modules = e.modules; queue = eq ∙ e.queue; how = ew ∙ e.how; seen = en ∙ e.seen; sums = es ∙ e.sums }
+engine_kept fs ms ws nt at pl mk eq ew en es e = record { laid = e.laid; tables = e.tables; pins = e.pins; modules = e.modules; queue = eq ∙ e.queue; how = ew ∙ e.how; seen = en ∙ e.seen; sums = es ∙ e.sums }

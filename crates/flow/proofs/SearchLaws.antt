@@ -13,8 +13,8 @@ use borrow.Author.Count.{below_more}
 use lib.IntN.{ℤ}
 use Rattle.flow.specs.Search.{In, zeros, rank, left, kind, entered, Pin, Hop, St, st, Fresh, Grown, Room, Seen, ViaHop, PinsDone, Whole, Link, Mark, Begun, Found}
 use Rattle.flow.proofs.Pins.{split}
-use Rattle.flow.proofs.Sets.{in-eq, in-set, in-set-here, set-in, zeros-append, zeros-one, in-length}
-use Rattle.flow.proofs.SpreadLaws.{grows, ranked-in}
+use Rattle.flow.proofs.Sets.{in_eq, in_set, in_set_here, set_in, zeros-append, zeros_one, in_length}
+use Rattle.flow.proofs.SpreadLaws.{grows, ranked_in}
 
 pub record Placed (s : St) (t m : ℕ) : Type 0 where
   pub place : ℕ
@@ -39,9 +39,9 @@ pub record Bfs (bk : Bool) (fs ms ws : List ℕ) (fl : List ℤ) (sm nt mk : Lis
 -- ---- the start
 
 module _ (k : ℕ) (mk : List ℕ) where
-  pub begun-none : (q w : List ℕ) → length w ≡ length mk → length q ≡ length mk → Begun k mk 0 q w 0
+  pub begun_none : (q w : List ℕ) → length w ≡ length mk → length q ≡ length mk → Begun k mk 0 q w 0
   unfolding zeros
-  begun-none q w ew eq = record {
+  begun_none q w ew eq = record {
     lw = ew;
     lq = eq;
     meters = λ m l. absurd (not-suc-le-zero l);
@@ -51,8 +51,8 @@ module _ (k : ℕ) (mk : List ℕ) where
     count = refl;
   }
 
-  pub begun-yes : {i t : ℕ} {q w : List ℕ} → Begun k mk i q w t → i < length mk → get_or mk i 0 ≡ k → {x y : ℕ} → x ≡ (t + 1) * 4294967296 + 0 + 0 → y ≡ i → Begun k mk (i + 1) (set q t y) (set w i x) (t + 1)
-  begun-yes {i} {t} {q} {w} s l e {x} {y} ex ey = rw ey (
+  pub begun_yes : {i t : ℕ} {q w : List ℕ} → Begun k mk i q w t → i < length mk → get_or mk i 0 ≡ k → {x y : ℕ} → x ≡ (t + 1) * 4294967296 + 0 + 0 → y ≡ i → Begun k mk (i + 1) (set q t y) (set w i x) (t + 1)
+  begun_yes {i} {t} {q} {w} s l e {x} {y} ex ey = rw ey (
       let c = s.count in
       let a = s.lw in
       let b = s.lq in
@@ -61,11 +61,11 @@ module _ (k : ℕ) (mk : List ℕ) where
       let hq : t < length q = omega arith in record {
         lw = length-set w i x ∙ s.lw;
         lq = length-set q t i ∙ s.lq;
-        meters = below_more _ i (λ m h z. in-set w i x m (omega arith) hw (s.meters m h z)) (λ z. in-set-here w i x (omega arith) hw);
-        only = below_more _ i (λ m h z. ⊎_elim (λ j. absurd (omega arith)) (s.only m h) (set-in w i x m z)) (λ z. e);
+        meters = below_more _ i (λ m h z. in_set w i x m (omega arith) hw (s.meters m h z)) (λ z. in_set_here w i x (omega arith) hw);
+        only = below_more _ i (λ m h z. ⊎_elim (λ j. absurd (omega arith)) (s.only m h) (set_in w i x m z)) (λ z. e);
         place = below_more _ i
             (λ m h z. let f : get_or (set w i x) m 0 ≡ get_or w m 0 = get_or-set_other w i m x 0 (omega arith) in
-            let p = s.place m h (in-eq (set w i x) w m (sym f) z) in
+            let p = s.place m h (in_eq (set w i x) w m (sym f) z) in
             let pl = p.1 in
             (p.0, (omega arith), ap rank f ∙ p.2, get_or-set_other q t p.0 i 0 (omega arith) ∙ p.3))
             (λ z. (t, (omega arith), ap rank (get_or-set_same w i x 0 hw) ∙ rx, get_or-set_same q t i 0 hq));
@@ -74,22 +74,22 @@ module _ (k : ℕ) (mk : List ℕ) where
             (omega arith, ap (λ (n : ℕ). rank (get_or (set w i x) n 0)) f ∙ ap rank (get_or-set_other w i (get_or q j 0) x 0 (omega arith)) ∙ p.1))
             (let f : get_or (set q t i) t 0 ≡ i = get_or-set_same q t i 0 hq in
             (omega arith, ap (λ (n : ℕ). rank (get_or (set w i x) n 0)) f ∙ ap rank (get_or-set_same w i x 0 hw) ∙ rx));
-        count = rw (add-one i) (rw (take-suc-set w i x hw) (omega (arith, zeros-append (take i w) (x ∷ []), zeros-one x (omega arith))));
+        count = rw (add-one i) (rw (take-suc-set w i x hw) (omega (arith, zeros-append (take i w) (x ∷ []), zeros_one x (omega arith))));
       })
 
-  pub begun-no : {i t : ℕ} {q w : List ℕ} → Begun k mk i q w t → i < length mk → (get_or mk i 0 ≡ k → ⊥) → Begun k mk (i + 1) q (set w i 0) t
+  pub begun_no : {i t : ℕ} {q w : List ℕ} → Begun k mk i q w t → i < length mk → (get_or mk i 0 ≡ k → ⊥) → Begun k mk (i + 1) q (set w i 0) t
   unfolding zeros
-  begun-no {i} {t} {q} {w} s l n =
+  begun_no {i} {t} {q} {w} s l n =
       let c = s.count in
       let a = s.lw in
       let hw : i < length w = omega arith in record {
         lw = length-set w i 0 ∙ s.lw;
         lq = s.lq;
-        meters = below_more _ i (λ m h z. in-eq w (set w i 0) m (get_or-set_other w i m 0 0 (omega arith)) (s.meters m h z)) (λ z. absurd (n z));
-        only = below_more _ i (λ m h z. s.only m h (in-eq (set w i 0) w m (sym (get_or-set_other w i m 0 0 (omega arith))) z)) (λ z. let f = get_or-set_same w i 0 0 hw in absurd (omega arith));
+        meters = below_more _ i (λ m h z. in_eq w (set w i 0) m (get_or-set_other w i m 0 0 (omega arith)) (s.meters m h z)) (λ z. absurd (n z));
+        only = below_more _ i (λ m h z. s.only m h (in_eq (set w i 0) w m (sym (get_or-set_other w i m 0 0 (omega arith))) z)) (λ z. let f = get_or-set_same w i 0 0 hw in absurd (omega arith));
         place = below_more _ i
             (λ m h z. let f : get_or (set w i 0) m 0 ≡ get_or w m 0 = get_or-set_other w i m 0 0 (omega arith) in
-            let p = s.place m h (in-eq (set w i 0) w m (sym f) z) in (p.0, p.1, ap rank f ∙ p.2, p.3))
+            let p = s.place m h (in_eq (set w i 0) w m (sym f) z) in (p.0, p.1, ap rank f ∙ p.2, p.3))
             (λ z. let f = get_or-set_same w i 0 0 hw in absurd (omega arith));
         inq = λ j h. let p = s.inq j h in let pl = p.0 in (omega arith, ap rank (get_or-set_other w i (get_or q j 0) 0 0 (omega arith)) ∙ p.1);
         count = rw (add-one i) (rw (take-suc-set w i 0 hw) (omega (arith, zeros-append (take i w) (0 ∷ []))));
@@ -101,8 +101,8 @@ cleared x n l h = below_more _ n (λ j k. get_or-set_other x n j 0 0 (omega arit
 -- ---- the search
 
 module _ (bk : Bool) (fs ms ws : List ℕ) (fl : List ℤ) (sm nt mk : List ℕ) where
-  pub bfs-start : {q w sn : List ℕ} {k t : ℕ} → length sn ≡ length ws → ((n : ℕ) → n < length sn → get_or sn n 0 ≡ 0) → k ≡ Mark bk → Begun k mk (length mk) q w t → Bfs bk fs ms ws fl sm nt mk (st q w sn) 0 t
-  bfs-start {q} {w} {sn} {k} {t} ls z ek b =
+  pub bfs_start : {q w sn : List ℕ} {k t : ℕ} → length sn ≡ length ws → ((n : ℕ) → n < length sn → get_or sn n 0 ≡ 0) → k ≡ Mark bk → Begun k mk (length mk) q w t → Bfs bk fs ms ws fl sm nt mk (st q w sn) 0 t
+  bfs_start {q} {w} {sn} {k} {t} ls z ek b =
       let xw = b.lw in let xq = b.lq in record {
         len = xw;
         lenq = xq ∙ sym xw;
@@ -122,18 +122,18 @@ module _ (bk : Bool) (fs ms ws : List ℕ) (fl : List ℤ) (sm nt mk : List ℕ)
       }
     where
       small : (m : ℕ) → In w m → m < length mk
-      small m i = let l = in-length w m i in let x = b.lw in omega arith
+      small m i = let l = in_length w m i in let x = b.lw in omega arith
 
-  pub bfs-low : {s : St} {h t u : ℕ} → Bfs bk fs ms ws fl sm nt mk s h t → h < t → u ≡ get_or s.q h 0 → u < length s.w
-  bfs-low {s} {h} {t} {u} b l e = in-length s.w u (ranked-in s.w u h (subst (λ (u : ℕ). rank (get_or s.w u 0) ≡ h + 1) (sym e) (b.inq h l)))
+  pub bfs_low : {s : St} {h t u : ℕ} → Bfs bk fs ms ws fl sm nt mk s h t → h < t → u ≡ get_or s.q h 0 → u < length s.w
+  bfs_low {s} {h} {t} {u} b l e = in_length s.w u (ranked_in s.w u h (subst (λ (u : ℕ). rank (get_or s.w u 0) ≡ h + 1) (sym e) (b.inq h l)))
 
-  pub bfs-room : {s : St} {h t : ℕ} → Bfs bk fs ms ws fl sm nt mk s h t → ((p : ℕ) → p < length ms → get_or ms p 0 < length mk) → length mk < 65535 → Room ms s.q s.w t
-  bfs-room b g f = let x = b.len in record { below = λ p l. let y = g p l in omega arith; lenq = b.lenq; full = b.full; few = omega arith }
+  pub bfs_room : {s : St} {h t : ℕ} → Bfs bk fs ms ws fl sm nt mk s h t → ((p : ℕ) → p < length ms → get_or ms p 0 < length mk) → length mk < 65535 → Room ms s.q s.w t
+  bfs_room b g f = let x = b.len in record { below = λ p l. let y = g p l in omega arith; lenq = b.lenq; full = b.full; few = omega arith }
 
   module _ (at pl : List ℕ) where
-    pub bfs-more : {s s' : St} {h t t' u M : ℕ} → Bfs bk fs ms ws fl sm nt mk s h t → Whole fs ms ws nt at pl sm fl M → h < t → u ≡ get_or s.q h 0
+    pub bfs_more : {s s' : St} {h t t' u M : ℕ} → Bfs bk fs ms ws fl sm nt mk s h t → Whole fs ms ws nt at pl sm fl M → h < t → u ≡ get_or s.q h 0
         → PinsDone bk fs ms ws fl sm nt pl u (get_or at u 0) (get_or at (u + 1) 0) s t s' t' → Bfs bk fs ms ws fl sm nt mk s' (h + 1) t'
-    bfs-more {s} {s'} {h} {t} {t'} {u} {M} b w l eu d =
+    bfs_more {s} {s'} {h} {t} {t'} {u} {M} b w l eu d =
         let xw = g.lenw in let xq = g.lenq in record {
           len = xw ∙ b.len;
           lenq = xq ∙ b.lenq ∙ sym xw;
@@ -142,7 +142,7 @@ module _ (bk : Bool) (fs ms ws : List ℕ) (fl : List ℤ) (sm nt mk : List ℕ)
           heads = let x = g.tails in omega arith;
           place = λ m i. ⊎_elim (λ j. kept m j (b.place m j)) (λ f. record { place = f.place; high = f.high; rank = f.rank; queued = f.queued }) (g.new m i);
           inq = λ j k. ⊎_elim
-              (λ n. ap (λ (i : ℕ). rank (get_or s'.w i 0)) (g.keptq j n) ∙ ap rank (g.kept (get_or s.q j 0) (ranked-in s.w (get_or s.q j 0) j (b.inq j n))) ∙ b.inq j n)
+              (λ n. ap (λ (i : ℕ). rank (get_or s'.w i 0)) (g.keptq j n) ∙ ap rank (g.kept (get_or s.q j 0) (ranked_in s.w (get_or s.q j 0) j (b.inq j n))) ∙ b.inq j n)
               (λ n. g.newq j n k)
               (split j t);
           meters = λ m k e. grows g m (b.meters m k e);
@@ -154,11 +154,11 @@ module _ (bk : Bool) (fs ms ws : List ℕ) (fl : List ℤ) (sm nt mk : List ℕ)
         g : Grown (ViaHop bk fs ms ws fl sm nt u) s.q s.w t s'.q s'.w t'
         g = d.grown
 
-        in-u : In s.w u
-        in-u = subst (λ (i : ℕ). In s.w i) (sym eu) (ranked-in s.w (get_or s.q h 0) h (b.inq h l))
+        in_u : In s.w u
+        in_u = subst (λ (i : ℕ). In s.w i) (sym eu) (ranked_in s.w (get_or s.q h 0) h (b.inq h l))
 
-        rank-u : rank (get_or s.w u 0) ≡ h + 1
-        rank-u = subst (λ (i : ℕ). rank (get_or s.w i 0) ≡ h + 1) (sym eu) (b.inq h l)
+        rank_u : rank (get_or s.w u 0) ≡ h + 1
+        rank_u = subst (λ (i : ℕ). rank (get_or s.w i 0) ≡ h + 1) (sym eu) (b.inq h l)
 
         kept : (m : ℕ) → In s.w m → Placed s t m → Placed s' t' m
         kept m j p = record { place = p.place; high = let x = p.high in let y = g.tails in omega arith; rank = ap rank (g.kept m j) ∙ p.rank; queued = g.keptq p.place p.high ∙ p.queued }
@@ -179,12 +179,12 @@ module _ (bk : Bool) (fs ms ws : List ℕ) (fl : List ℤ) (sm nt mk : List ℕ)
 
         new : (m : ℕ) → In s'.w m → Fresh (ViaHop bk fs ms ws fl sm nt u) s'.q s'.w t t' m → Link bk fs ms ws fl sm nt s' m
         new m i f =
-            let p = b.place u in-u in record {
+            let p = b.place u in_u in record {
               hop = f.how.hop;
               to = f.how.to;
-              from = subst (λ (i : ℕ). In s'.w i) (sym f.how.from) (grows g u in-u);
+              from = subst (λ (i : ℕ). In s'.w i) (sym f.how.from) (grows g u in_u);
               lower = subst (λ (i : ℕ). rank (get_or s'.w i 0) < rank (get_or s'.w m 0)) (sym f.how.from)
-                  (subst (λ (x : ℕ). rank x < rank (get_or s'.w m 0)) (sym (g.kept u in-u))
+                  (subst (λ (x : ℕ). rank x < rank (get_or s'.w m 0)) (sym (g.kept u in_u))
                   (let y = p.rank in let z = p.high in let c = f.rank in let e = f.low in omega arith));
               opens = ⊎_elim (λ j. let p = b.place m j in let x = p.rank in let y = p.high in let z = f.rank in let v = f.low in
                   let k : rank (get_or s'.w m 0) ≡ rank (get_or s.w m 0) = ap rank (g.kept m j) in absurd (omega arith)) (λ o. o) (d.marked.opens m i);
@@ -207,8 +207,8 @@ module _ (bk : Bool) (fs ms ws : List ℕ) (fl : List ℤ) (sm nt mk : List ℕ)
             here a la (ea ∙ mu) k c hop)
             (split p.place h)
 
-  pub bfs-end : {s : St} {h t : ℕ} → Bfs bk fs ms ws fl sm nt mk s h t → t ≤ h → Found bk fs ms ws fl sm nt mk s
-  bfs-end {s} {h} {t} b l = record {
+  pub bfs_end : {s : St} {h t : ℕ} → Bfs bk fs ms ws fl sm nt mk s h t → t ≤ h → Found bk fs ms ws fl sm nt mk s
+  bfs_end {s} {h} {t} b l = record {
     len = b.len;
     ranks = λ m i. let p = b.place m i in let x = p.rank in let y = p.high in let f = b.full in let n = b.len in (omega arith, omega arith);
     meters = b.meters;

@@ -11,20 +11,20 @@ use lib.Seq.{get_or-set_same, get_or-set_other}
 use lib.IntN.{ℤ}
 use lib.Dec.{ltb}
 use Rattle.flow.specs.Search.{or, gift, In, rank, Fresh, Grown, Room, way_from, ViaNet, Spread}
-use Rattle.flow.proofs.Pins.{pins-none, pins-more, pin-wider, split}
-use Rattle.flow.proofs.Sets.{in-eq, in-set-here, set-in, zeros-set}
+use Rattle.flow.proofs.Pins.{pins_none, pins_more, pin_wider, split}
+use Rattle.flow.proofs.Sets.{in_eq, in_set_here, set_in, zeros-set}
 
 abbrev pub Sub : List ℕ → List ℕ → Type 0
 Sub xs ys = (m : ℕ) → In xs m → In ys m
 
-pub ranked-in : (x : List ℕ) (m j : ℕ) → rank (get_or x m 0) ≡ j + 1 → In x m
-ranked-in x m j e = omega arith
+pub ranked_in : (x : List ℕ) (m j : ℕ) → rank (get_or x m 0) ≡ j + 1 → In x m
+ranked_in x m j e = omega arith
 
 pub grows : {New : ℕ → ℕ → Type 0} {q₀ w₀ q w : List ℕ} {t₀ t : ℕ} → Grown New q₀ w₀ t₀ q w t → Sub w₀ w
-grows {New} {q₀} {w₀} {q} {w} g m h = in-eq w₀ w m (g.kept m h) h
+grows {New} {q₀} {w₀} {q} {w} g m h = in_eq w₀ w m (g.kept m h) h
 
-pub grown-none : (New : ℕ → ℕ → Type 0) (q w : List ℕ) (t : ℕ) → Grown New q w t q w t
-grown-none New q w t = record {
+pub grown_none : (New : ℕ → ℕ → Type 0) (q w : List ℕ) (t : ℕ) → Grown New q w t q w t
+grown_none New q w t = record {
   lenq = refl;
   lenw = refl;
   tails = le_refl t;
@@ -47,8 +47,8 @@ grown-map {New} {New'} {q₀} {w₀} {q} {w} {t₀} {t} f g = record {
   newq = g.newq;
 }
 
-pub grown-trans : {New : ℕ → ℕ → Type 0} {q₀ w₀ q₁ w₁ q₂ w₂ : List ℕ} {t₀ t₁ t₂ : ℕ} → Grown New q₀ w₀ t₀ q₁ w₁ t₁ → Grown New q₁ w₁ t₁ q₂ w₂ t₂ → Grown New q₀ w₀ t₀ q₂ w₂ t₂
-grown-trans {New} {q₀} {w₀} {q₁} {w₁} {q₂} {w₂} {t₀} {t₁} {t₂} g h =
+pub grown_trans : {New : ℕ → ℕ → Type 0} {q₀ w₀ q₁ w₁ q₂ w₂ : List ℕ} {t₀ t₁ t₂ : ℕ} → Grown New q₀ w₀ t₀ q₁ w₁ t₁ → Grown New q₁ w₁ t₁ q₂ w₂ t₂ → Grown New q₀ w₀ t₀ q₂ w₂ t₂
+grown_trans {New} {q₀} {w₀} {q₁} {w₁} {q₂} {w₂} {t₀} {t₁} {t₂} g h =
     let gt = g.tails in let ht = h.tails in record {
       lenq = h.lenq ∙ g.lenq;
       lenw = h.lenw ∙ g.lenw;
@@ -60,7 +60,7 @@ grown-trans {New} {q₀} {w₀} {q₁} {w₁} {q₂} {w₂} {t₀} {t₁} {t₂}
           (λ k. inr (record { place = k.place; low = le_trans gt k.low; high = k.high; rank = k.rank; queued = k.queued; how = k.how }))
           (h.new m i);
       newq = λ j a b. ⊎_elim
-          (λ l. ap (λ (k : ℕ). rank (get_or w₂ k 0)) (h.keptq j l) ∙ ap rank (h.kept (get_or q₁ j 0) (ranked-in w₁ (get_or q₁ j 0) j (g.newq j a l))) ∙ g.newq j a l)
+          (λ l. ap (λ (k : ℕ). rank (get_or w₂ k 0)) (h.keptq j l) ∙ ap rank (h.kept (get_or q₁ j 0) (ranked_in w₁ (get_or q₁ j 0) j (g.newq j a l))) ∙ g.newq j a l)
           (λ l. h.newq j l b)
           (split j t₁);
     }
@@ -75,16 +75,16 @@ grown-trans {New} {q₀} {w₀} {q₁} {w₁} {q₂} {w₂} {t₀} {t₁} {t₂}
       how = subst (λ (x : ℕ). New m x) (sym (h.kept m j)) k.how;
     }
 
-pub grown-mark : (New : ℕ → ℕ → Type 0) (q w : List ℕ) (t m x : ℕ) → get_or w m 0 ≡ 0 → m < length w → t < length q → rank x ≡ t + 1
+pub grown_mark : (New : ℕ → ℕ → Type 0) (q w : List ℕ) (t m x : ℕ) → get_or w m 0 ≡ 0 → m < length w → t < length q → rank x ≡ t + 1
     → New m x → Grown New q w t (set q t m) (set w m x) (t + 1)
-grown-mark New q w t m x z lw lq r n = record {
+grown_mark New q w t m x z lw lq r n = record {
   lenq = length-set q t m;
   lenw = length-set w m x;
   tails = omega arith;
   count = omega (arith, zeros-set w m x (omega arith) lw z);
   kept = λ k h. get_or-set_other w m k x 0 (ne k h);
   keptq = λ j l. get_or-set_other q t j m 0 (omega arith);
-  new = λ k h. ⊎_elim (λ e. inr (subst (λ (k : ℕ). Fresh New (set q t m) (set w m x) t (t + 1) k) (sym e) here)) inl (set-in w m x k h);
+  new = λ k h. ⊎_elim (λ e. inr (subst (λ (k : ℕ). Fresh New (set q t m) (set w m x) t (t + 1) k) (sym e) here)) inl (set_in w m x k h);
   newq = λ j a b. let e : j ≡ t = omega arith in
       subst (λ (i : ℕ). rank (get_or (set w m x) (get_or (set q t m) i 0) 0) ≡ i + 1) (sym e)
       (ap (λ (i : ℕ). rank (get_or (set w m x) i 0)) (get_or-set_same q t m 0 lq) ∙ ap rank (get_or-set_same w m x 0 lw) ∙ r);
@@ -108,34 +108,34 @@ grown-mark New q w t m x z lw lq r n = record {
 module _ (ms : List ℕ) (fl : List ℤ) (all bk : Bool) (from undo lo : ℕ) where
   pub spread_none : (q w : List ℕ) (t : ℕ) → Spread ms fl all bk from undo lo lo q w t q w t
   spread_none q w t = record {
-    grown = grown-none _ q w t;
-    done = λ b p g. pins-none (λ (k : ℕ). In w (get_or ms k 0)) lo b p;
+    grown = grown_none _ q w t;
+    done = λ b p g. pins_none (λ (k : ℕ). In w (get_or ms k 0)) lo b p;
   }
 
   wider : {i m x : ℕ} → ViaNet ms fl all bk from undo lo i m x → ViaNet ms fl all bk from undo lo (i + 1) m x
-  wider v = record { at = v.at; number = v.number; pin = pin-wider v.pin; gives = v.gives; to = v.to }
+  wider v = record { at = v.at; number = v.number; pin = pin_wider v.pin; gives = v.gives; to = v.to }
 
-  pub spread-skip : {i t₀ t : ℕ} {q₀ w₀ q w : List ℕ} → Spread ms fl all bk from undo lo i q₀ w₀ t₀ q w t → (or all (ltb 0 (gift bk fl i)) ≡ true → In w (get_or ms i 0)) → Spread ms fl all bk from undo lo (i + 1) q₀ w₀ t₀ q w t
-  spread-skip {i} {t₀} {t} {q₀} {w₀} {q} {w} k h = record {
+  pub spread_skip : {i t₀ t : ℕ} {q₀ w₀ q w : List ℕ} → Spread ms fl all bk from undo lo i q₀ w₀ t₀ q w t → (or all (ltb 0 (gift bk fl i)) ≡ true → In w (get_or ms i 0)) → Spread ms fl all bk from undo lo (i + 1) q₀ w₀ t₀ q w t
+  spread_skip {i} {t₀} {t} {q₀} {w₀} {q} {w} k h = record {
     grown = grown-map (λ m x. wider) k.grown;
-    done = pins-more (λ (b : ℕ). or all (ltb 0 (gift bk fl b)) ≡ true → In w (get_or ms b 0)) lo i k.done h;
+    done = pins_more (λ (b : ℕ). or all (ltb 0 (gift bk fl b)) ≡ true → In w (get_or ms b 0)) lo i k.done h;
   }
 
-  pub spread-mark : {i t₀ t : ℕ} {q₀ w₀ q w : List ℕ} → Spread ms fl all bk from undo lo i q₀ w₀ t₀ q w t → lo ≤ i → or all (ltb 0 (gift bk fl i)) ≡ true → (m : ℕ) → m ≡ get_or ms i 0
+  pub spread_mark : {i t₀ t : ℕ} {q₀ w₀ q w : List ℕ} → Spread ms fl all bk from undo lo i q₀ w₀ t₀ q w t → lo ≤ i → or all (ltb 0 (gift bk fl i)) ≡ true → (m : ℕ) → m ≡ get_or ms i 0
       → get_or w m 0 ≡ 0 → m < length w → t < length q → {f : ℕ} → f ≡ way_from (ltb 0 (gift bk fl i)) from undo → f + i < 4294967296 → {x qm : ℕ} → x ≡ (t + 1) * 4294967296 + f + i → qm ≡ m
       → Spread ms fl all bk from undo lo (i + 1) q₀ w₀ t₀ (set q t qm) (set w m x) (t + 1)
-  spread-mark {i} {t₀} {t} {q₀} {w₀} {q} {w} k li g m e z lw lq {f} ef lfi {x} {qm} ex eq = rw eq (record {
-    grown = grown-trans (grown-map (λ m x. wider) k.grown) step;
-    done = pins-more (λ (b : ℕ). or all (ltb 0 (gift bk fl b)) ≡ true → In (set w m x) (get_or ms b 0)) lo i
+  spread_mark {i} {t₀} {t} {q₀} {w₀} {q} {w} k li g m e z lw lq {f} ef lfi {x} {qm} ex eq = rw eq (record {
+    grown = grown_trans (grown-map (λ m x. wider) k.grown) step;
+    done = pins_more (λ (b : ℕ). or all (ltb 0 (gift bk fl b)) ≡ true → In (set w m x) (get_or ms b 0)) lo i
         (λ b p q. grows step (get_or ms b 0) (k.done b p q))
-        (λ q. subst (λ (j : ℕ). In (set w m x) j) e (in-set-here w m x (omega arith) lw));
+        (λ q. subst (λ (j : ℕ). In (set w m x) j) e (in_set_here w m x (omega arith) lw));
   })
     where
       numbered : x ≡ rank x * 4294967296 + way_from (ltb 0 (gift bk fl i)) from undo + i
       numbered = omega (arith, ex, lfi, ef)
 
       step : Grown (ViaNet ms fl all bk from undo lo (i + 1)) q w t (set q t m) (set w m x) (t + 1)
-      step = grown-mark _ q w t m x z lw lq (omega arith) (record { at = i; number = numbered; pin = record { low = li; high = omega arith }; gives = g; to = sym e })
+      step = grown_mark _ q w t m x z lw lq (omega arith) (record { at = i; number = numbered; pin = record { low = li; high = omega arith }; gives = g; to = sym e })
 
 -- the same, where the code has the net's ends as locals
 pub spread_at : {ms : List ℕ} {fl : List ℤ} {all bk : Bool} {from undo lo lo' hi hi' t t' : ℕ} {q₀ w₀ q w : List ℕ} → lo ≡ lo' → hi ≡ hi' →
@@ -161,8 +161,8 @@ marks {ms} {q₀} {w₀} {q} {w} rm g m l z =
       few = omega (arith, rm.few, rm.full, g.lenw);
     }
 
-pub room-more : {ms q₀ w₀ q w : List ℕ} {New : ℕ → ℕ → Type 0} {t₀ t : ℕ} → Room ms q₀ w₀ t₀ → Grown New q₀ w₀ t₀ q w t → Room ms q w t
-room-more rm g = let a = g.lenq in let b = g.lenw in let d = g.count in record {
+pub room_more : {ms q₀ w₀ q w : List ℕ} {New : ℕ → ℕ → Type 0} {t₀ t : ℕ} → Room ms q₀ w₀ t₀ → Grown New q₀ w₀ t₀ q w t → Room ms q w t
+room_more rm g = let a = g.lenq in let b = g.lenw in let d = g.count in record {
   below = λ p l. omega (arith, rm.below p l);
   lenq = omega (arith, rm.lenq);
   full = omega (arith, rm.full);

@@ -13,15 +13,15 @@ use lib.Dec.{T, eqb, eqb→eq, ltb→lt, lt→ltb, T_not, eqb_refl}
 use Rattle.line.specs.Card.{Net, Card, Side, all_pins}
 use Rattle.line.specs.Flow.{sent, taken, total_sent}
 use Rattle.line.proofs.Ways.{plainly}
-use Rattle.line.proofs.Index.{net_at, start, numbers, pin_at, start-in}
+use Rattle.line.proofs.Index.{net_at, start, numbers, pin_at, start_in}
 use Rattle.line.proofs.WayFlow.{Valid}
-use Rattle.line.proofs.Path.{pin_of, tail, NetSpare, Spare, spare-passes}
-use Rattle.line.proofs.Tree.{Twig, Tree, pin-module}
+use Rattle.line.proofs.Path.{pin_of, tail, NetSpare, Spare, spare_passes}
+use Rattle.line.proofs.Tree.{Twig, Tree, pin_module}
 use Rattle.line.proofs.Turn.{Reached}
-use Rattle.line.proofs.Search.{Forth, Open, forth-closed, closed-forth}
+use Rattle.line.proofs.Search.{Forth, Open, forth_closed, closed_forth}
 use Rattle.flow.specs.Search.{gift, In, rank, left, kind, entered, Pin, Way, Hop, St, Link, Mark, Found}
 use Rattle.flow.specs.Cards.{Grid, side_of, up_of}
-use Rattle.flow.proofs.CardLaws.{Made, grid-one}
+use Rattle.flow.proofs.CardLaws.{Made, grid_one}
 
 abbrev pub rank_of : List ℕ → ℕ → ℕ
 rank_of w m = rank (get_or w m 0)
@@ -46,8 +46,8 @@ no_eqb k n t e = T_not (eqb k n) t (same k n e)
 pub number_at : (ns : List Net) (xs : List ℤ) (e i : ℕ) → i < length (net_at ns e).pins → get_or (numbers ns xs e) i (pos 0) ≡ get_or xs (start ns e + i) (pos 0)
 number_at ns xs e i l = get_or-take (length (net_at ns e).pins) (drop (start ns e) xs) i (pos 0) l ∙ get_or-drop (start ns e) xs i (pos 0)
 
-pub pin-global : (c : Card) (ms : List ℕ) → all_pins c.nets ≡ ms → (e i : ℕ) → e < length c.nets → i < length (net_at c.nets e).pins → pin_of c e i ≡ get_or ms (start c.nets e + i) 0
-pin-global c ms q e i l k = sym (pin_at c.nets e l i k) ∙ ap (λ (ps : List ℕ). get_or ps (start c.nets e + i) 0) q
+pub pin_global : (c : Card) (ms : List ℕ) → all_pins c.nets ≡ ms → (e i : ℕ) → e < length c.nets → i < length (net_at c.nets e).pins → pin_of c e i ≡ get_or ms (start c.nets e + i) 0
+pin_global c ms q e i l k = sym (pin_at c.nets e l i k) ∙ ap (λ (ps : List ℕ). get_or ps (start c.nets e + i) 0) q
 
 module _ (bk : Bool) (fs ms ws : List ℕ) (fl : List ℤ) (sm nt mk : List ℕ) (c : Card) (xs : List ℤ) (made : Made c fs ms ws) (grid : Grid c ms nt) (valid : Valid c)
     (modules : c.modules ≡ length mk) (marks : (m : ℕ) → c.mark m ≡ 1 → get_or mk m 0 ≡ Mark bk) (starts : (m : ℕ) → get_or mk m 0 ≡ Mark bk → c.mark m ≡ 1)
@@ -78,8 +78,8 @@ module _ (bk : Bool) (fs ms ws : List ℕ) (fl : List ℤ) (sm nt mk : List ℕ)
         lb = lb;
         at_a = ea;
         at_b = eb;
-        tail = pin-global c ms grid.pins e (a - start c.nets e) n la ∙ ap (λ (i : ℕ). get_or ms i 0) ea;
-        head = pin-global c ms grid.pins e (b - start c.nets e) n lb ∙ ap (λ (i : ℕ). get_or ms i 0) eb;
+        tail = pin_global c ms grid.pins e (a - start c.nets e) n la ∙ ap (λ (i : ℕ). get_or ms i 0) ea;
+        head = pin_global c ms grid.pins e (b - start c.nets e) n lb ∙ ap (λ (i : ℕ). get_or ms i 0) eb;
       }
 
   spare : (k a b : ℕ) (h : Hop bk fs ws fl sm nt k a b) → NetSpare (net_at c.nets (get_or nt a 0)) (numbers c.nets xs (get_or nt a 0)) 1
@@ -99,9 +99,9 @@ module _ (bk : Bool) (fs ms ws : List ℕ) (fl : List ℤ) (sm nt mk : List ℕ)
       first_kind (suc (suc (suc k))) l p q = absurd (omega arith)
 
   -- a step of the theory is a hop
-  hop-of : (e i j : ℕ) → e < length c.nets → i < length (net_at c.nets e).pins → j < length (net_at c.nets e).pins → Open plainly c xs e i j →
+  hop_of : (e i j : ℕ) → e < length c.nets → i < length (net_at c.nets e).pins → j < length (net_at c.nets e).pins → Open plainly c xs e i j →
       (k : ℕ) × Hop bk fs ws fl sm nt k (start c.nets e + i) (start c.nets e + j)
-  hop-of e i j l li lj o = go o.room
+  hop_of e i j l li lj o = go o.room
     where
       a : ℕ
       a = start c.nets e + i
@@ -110,7 +110,7 @@ module _ (bk : Bool) (fs ms ws : List ℕ) (fl : List ℤ) (sm nt mk : List ℕ)
       b = start c.nets e + j
 
       one : get_or nt a 0 ≡ e
-      one = grid-one c ms nt grid e i l li
+      one = grid_one c ms nt grid e i l li
 
       small : e < length ws
       small = let y = made.nets in omega arith
@@ -139,11 +139,11 @@ module _ (bk : Bool) (fs ms ws : List ℕ) (fl : List ℤ) (sm nt mk : List ℕ)
       go (inr (inr h)) = hop 0 (record { small = omega arith; room = λ _. omega (arith, sees.sums e l, made.weight e small); less = λ z. absurd (omega arith); back = λ z. absurd (omega arith) })
 
   module _ (s : St) (found : Found bk fs ms ws fl sm nt mk s) where
-    in-side : (m : ℕ) → In s.w m → T (side_of s.w m)
-    in-side m h = lt→ltb 0 (get_or s.w m 0) h
+    in_side : (m : ℕ) → In s.w m → T (side_of s.w m)
+    in_side m h = lt→ltb 0 (get_or s.w m 0) h
 
-    side-in : (m : ℕ) → T (side_of s.w m) → In s.w m
-    side-in m t = ltb→lt 0 (get_or s.w m 0) t
+    side_in : (m : ℕ) → T (side_of s.w m) → In s.w m
+    side_in m t = ltb→lt 0 (get_or s.w m 0) t
 
     twig : (m : ℕ) → In s.w m → Link bk fs ms ws fl sm nt s m → Twig plainly c (rank_of s.w) (opener_of c s.sn) (side_of s.w) m (up_of c nt s.w m)
     twig m i k =
@@ -160,45 +160,45 @@ module _ (bk : Bool) (fs ms ws : List ℕ) (fl : List ℤ) (sm nt mk : List ℕ)
             takes = λ _. tt;
           };
           to = to;
-          from = subst (λ (n : ℕ). T (side_of s.w n)) (sym from) (in-side (get_or ms (left x) 0) k.from);
+          from = subst (λ (n : ℕ). T (side_of s.w n)) (sym from) (in_side (get_or ms (left x) 0) k.from);
           lower = subst (λ (n : ℕ). rank (get_or s.w n 0) < rank x) (sym from) k.lower;
-          opened = λ t u. let o = k.opens (room-kind k.hop.way.small t u) in omega arith;
+          opened = λ t u. let o = k.opens (room_kind k.hop.way.small t u) in omega arith;
         }
       where
-        room-kind : kind (get_or s.w m 0) ≤ 2 → T (not (eqb (kind (get_or s.w m 0)) 1)) → T (not (eqb (kind (get_or s.w m 0)) 2)) → kind (get_or s.w m 0) ≡ 0
-        room-kind l t u = let p = no_eqb (kind (get_or s.w m 0)) 1 t in let q = no_eqb (kind (get_or s.w m 0)) 2 u in omega arith
+        room_kind : kind (get_or s.w m 0) ≤ 2 → T (not (eqb (kind (get_or s.w m 0)) 1)) → T (not (eqb (kind (get_or s.w m 0)) 2)) → kind (get_or s.w m 0) ≡ 0
+        room_kind l t u = let p = no_eqb (kind (get_or s.w m 0)) 1 t in let q = no_eqb (kind (get_or s.w m 0)) 2 u in omega arith
 
-    pub found-tree : Tree plainly c (rank_of s.w) (opener_of c s.sn) (up_of c nt s.w) (side_of s.w)
-    found-tree m l t n = ⊎_elim (λ e. absurd (n (starts m e))) (twig m (side-in m t)) (found.link m (side-in m t))
+    pub found_tree : Tree plainly c (rank_of s.w) (opener_of c s.sn) (up_of c nt s.w) (side_of s.w)
+    found_tree m l t n = ⊎_elim (λ e. absurd (n (starts m e))) (twig m (side_in m t)) (found.link m (side_in m t))
 
     -- one more can pass by the step to each module that was reached
-    pub found-spare : (m : ℕ) → T (side_of s.w m) → c.mark m ≢ 1 → Spare c xs 1 (up_of c nt s.w m)
-    found-spare m t n = ⊎_elim (λ e. absurd (n (starts m e))) (λ k. spare (kind (get_or s.w m 0)) (left (get_or s.w m 0)) (entered (get_or s.w m 0)) k.hop) (found.link m (side-in m t))
+    pub found_spare : (m : ℕ) → T (side_of s.w m) → c.mark m ≢ 1 → Spare c xs 1 (up_of c nt s.w m)
+    found_spare m t n = ⊎_elim (λ e. absurd (n (starts m e))) (λ k. spare (kind (get_or s.w m 0)) (left (get_or s.w m 0)) (entered (get_or s.w m 0)) k.hop) (found.link m (side_in m t))
 
-    pub found-reached : Reached plainly c xs (side_of s.w)
-    found-reached = record {
-      meters = λ m l e. in-side m (found.meters m (omega (arith, modules)) (marks m e));
-      closed = forth-closed plainly c xs (side_of s.w) forth;
-      inside = λ t h k m l i. go t h (closed-forth plainly c xs t k) (suc (rank_of s.w m)) m l i (omega arith);
+    pub found_reached : Reached plainly c xs (side_of s.w)
+    found_reached = record {
+      meters = λ m l e. in_side m (found.meters m (omega (arith, modules)) (marks m e));
+      closed = forth_closed plainly c xs (side_of s.w) forth;
+      inside = λ t h k m l i. go t h (closed_forth plainly c xs t k) (suc (rank_of s.w m)) m l i (omega arith);
     }
       where
         forth : Forth plainly c xs (side_of s.w)
         forth e i j l li lj t o =
-            let r = hop-of e i j l li lj o in
+            let r = hop_of e i j l li lj o in
             let a = start c.nets e + i in
-            let la : a < length ms = omega (arith, start-in c.nets e l, ap length grid.pins) in
-            subst (λ (n : ℕ). T (side_of s.w n)) (sym (pin-global c ms grid.pins e j l lj))
-            (in-side _ (found.closed a la (side-in _ (subst (λ (n : ℕ). T (side_of s.w n)) (pin-global c ms grid.pins e i l li) t)) r.0 (start c.nets e + j) r.1))
+            let la : a < length ms = omega (arith, start_in c.nets e l, ap length grid.pins) in
+            subst (λ (n : ℕ). T (side_of s.w n)) (sym (pin_global c ms grid.pins e j l lj))
+            (in_side _ (found.closed a la (side_in _ (subst (λ (n : ℕ). T (side_of s.w n)) (pin_global c ms grid.pins e i l li) t)) r.0 (start c.nets e + j) r.1))
 
         go : (t : Side) → ((m : ℕ) → m < c.modules → c.mark m ≡ 1 → T (t m)) → Forth plainly c xs t → (n m : ℕ) → m < c.modules → T (side_of s.w m) → rank_of s.w m < n → T (t m)
         go t h f zero m l i r = absurd (not-suc-le-zero r)
         go t h f (suc n) m l i r =
             let rec = go t h f n in
             ⊎_elim (λ e. h m l (starts m e))
-            (λ k. let g = twig m (side-in m i) k in
+            (λ k. let g = twig m (side_in m i) k in
             let u = up_of c nt s.w m in
             subst (λ (v : ℕ). T (t v)) g.to
             (f u.net u.a u.b g.sound.net g.sound.a g.sound.b
-            (rec (tail c u) (pin-module c valid u.net u.a g.sound.net g.sound.a) g.from (omega (arith, g.lower)))
-            (spare-passes plainly c xs 1 u g.sound (spare (kind (get_or s.w m 0)) (left (get_or s.w m 0)) (entered (get_or s.w m 0)) k.hop))))
-            (found.link m (side-in m i))
+            (rec (tail c u) (pin_module c valid u.net u.a g.sound.net g.sound.a) g.from (omega (arith, g.lower)))
+            (spare_passes plainly c xs 1 u g.sound (spare (kind (get_or s.w m 0)) (left (get_or s.w m 0)) (entered (get_or s.w m 0)) k.hop))))
+            (found.link m (side_in m i))

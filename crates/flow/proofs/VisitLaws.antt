@@ -11,10 +11,10 @@ use lib.Seq.{get_or-set_same, get_or-set_other}
 use lib.IntN.{ℤ}
 use lib.Dec.{T, ltb, eqb, eqb→eq}
 use Rattle.flow.specs.Search.{or, gift, In, rank, left, kind, entered, Pin, Way, Hop, St, st, Grown, way_from, ViaNet, Spread, Kind, Enough, Visit, Seen, Marked, ViaHop, PinDone, PinsDone, Whole}
-use Rattle.flow.proofs.Pins.{pins-none, pins-more}
+use Rattle.flow.proofs.Pins.{pins_none, pins_more}
 use Rattle.flow.proofs.Sets.{clash}
-use Rattle.flow.proofs.Numbers.{above-true, true-above}
-use Rattle.flow.proofs.SpreadLaws.{grows, grown-none, grown-map, grown-trans}
+use Rattle.flow.proofs.Numbers.{above_true, true_above}
+use Rattle.flow.proofs.SpreadLaws.{grows, grown_none, grown-map, grown_trans}
 
 -- ---- one pin
 
@@ -32,8 +32,8 @@ way_of : (bk : Bool) (fl : List ℤ) (sum weight k a b : ℕ) (takes all : Bool)
 way_of bk fl sum weight k a b takes all et kd ea g = record {
   small = kd.small;
   room = kd.room;
-  less = λ e. above-true (gift (not bk) fl a) (sym et ∙ kd.less e);
-  back = λ e. above-true (gift bk fl b) (subst (λ (z : Bool). or z (ltb 0 (gift bk fl b)) ≡ true) (ea e) g);
+  less = λ e. above_true (gift (not bk) fl a) (sym et ∙ kd.less e);
+  back = λ e. above_true (gift bk fl b) (subst (λ (z : Bool). or z (ltb 0 (gift bk fl b)) ≡ true) (ea e) g);
 }
 
 -- a step to a pin that sends, whatever the kind of those to the others
@@ -49,32 +49,32 @@ or_right : (x : Bool) {y : Bool} → y ≡ true → or x y ≡ true
 or_right true e = refl
 or_right false e = e
 
-last-kind : (k : ℕ) → k ≤ 2 → (k ≡ 0 → ⊥) → (k ≡ 1 → ⊥) → k ≡ 2
-last-kind zero l p q = absurd (p refl)
-last-kind (suc zero) l p q = absurd (q refl)
-last-kind (suc (suc zero)) l p q = refl
-last-kind (suc (suc (suc k))) l p q = absurd (omega arith)
+last_kind : (k : ℕ) → k ≤ 2 → (k ≡ 0 → ⊥) → (k ≡ 1 → ⊥) → k ≡ 2
+last_kind zero l p q = absurd (p refl)
+last_kind (suc zero) l p q = absurd (q refl)
+last_kind (suc (suc zero)) l p q = refl
+last_kind (suc (suc (suc k))) l p q = absurd (omega arith)
 
 -- where the steps that leave by pin a go to the pins that send alone
-only-back : (bk : Bool) (fl : List ℤ) (sum weight k k' a b : ℕ) (takes : Bool) → takes ≡ ltb 0 (gift (not bk) fl a) → Kind sum weight takes k → k ≡ 2 → Way bk fl sum weight k' a b → 0 < gift bk fl b
-only-back bk fl sum weight k k' a b takes et kd e w =
+only_back : (bk : Bool) (fl : List ℤ) (sum weight k k' a b : ℕ) (takes : Bool) → takes ≡ ltb 0 (gift (not bk) fl a) → Kind sum weight takes k → k ≡ 2 → Way bk fl sum weight k' a b → 0 < gift bk fl b
+only_back bk fl sum weight k k' a b takes et kd e w =
     let o = kd.only e in
-    w.back (last-kind k' w.small (λ q. let x = w.room q in let y = o.0 in omega arith) (λ q. clash (true-above (gift (not bk) fl a) (w.less q)) (sym et ∙ o.1)))
+    w.back (last_kind k' w.small (λ q. let x = w.room q in let y = o.0 in omega arith) (λ q. clash (true_above (gift (not bk) fl a) (w.less q)) (sym et ∙ o.1)))
 
 -- a way by which the pin b is among those that are spread to
-way-picks : (bk : Bool) (fl : List ℤ) (sum weight k k' a b : ℕ) (takes all : Bool) → takes ≡ ltb 0 (gift (not bk) fl a) → Kind sum weight takes k → ((k ≡ 2 → ⊥) → all ≡ true) →
+way_picks : (bk : Bool) (fl : List ℤ) (sum weight k k' a b : ℕ) (takes all : Bool) → takes ≡ ltb 0 (gift (not bk) fl a) → Kind sum weight takes k → ((k ≡ 2 → ⊥) → all ≡ true) →
     Way bk fl sum weight k' a b → or all (ltb 0 (gift bk fl b)) ≡ true
-way-picks bk fl sum weight k k' a b takes all et kd ea w = go (ℕ_discrete k 2)
+way_picks bk fl sum weight k k' a b takes all et kd ea w = go (ℕ_discrete k 2)
   where
     go : Dec (k ≡ 2) → or all (ltb 0 (gift bk fl b)) ≡ true
     go (no n) = rw (ea n)
-    go (yes e) = or_right all (true-above (gift bk fl b) (only-back bk fl sum weight k k' a b takes et kd e w))
+    go (yes e) = or_right all (true_above (gift bk fl b) (only_back bk fl sum weight k k' a b takes et kd e w))
 
 -- a net whose every pin was reached has nothing new
-pub pin-whole : (bk : Bool) (fs ms ws : List ℕ) (fl : List ℤ) (sm nt : List ℕ) (a : ℕ) → Visit fs ms ws nt sm fl a → (s : St) (t : ℕ) → Seen bk fs ms ws fl s.w s.sn →
+pub pin_whole : (bk : Bool) (fs ms ws : List ℕ) (fl : List ℤ) (sm nt : List ℕ) (a : ℕ) → Visit fs ms ws nt sm fl a → (s : St) (t : ℕ) → Seen bk fs ms ws fl s.w s.sn →
     1 < get_or s.sn (get_or nt a 0) 0 → PinDone bk fs ms ws fl sm nt a s t s t
-pin-whole bk fs ms ws fl sm nt a v s t seen l = record {
-  grown = grown-none _ s.q s.w t;
+pin_whole bk fs ms ws fl sm nt a v s t seen l = record {
+  grown = grown_none _ s.q s.w t;
   marked = record { len = refl; kept = λ n h. refl; opens = λ m i. inl i };
   seen = seen;
   done = λ k b h. seen.whole (get_or nt a 0) v.net l b h.enters;
@@ -83,26 +83,26 @@ pin-whole bk fs ms ws fl sm nt a v s t seen l = record {
 module _ (bk : Bool) (fs ms ws : List ℕ) (fl : List ℤ) (sm nt : List ℕ) (a k : ℕ) (takes : Bool) (v : Visit fs ms ws nt sm fl a)
     (et : takes ≡ ltb 0 (gift (not bk) fl a)) (kd : Kind (get_or sm (get_or nt a 0) 0) (get_or ws (get_or nt a 0) 0) takes k) where
   -- nothing new
-  pub pin-skip : (s : St) (t : ℕ) → Seen bk fs ms ws fl s.w s.sn → Enough (get_or s.sn (get_or nt a 0) 0) k → PinDone bk fs ms ws fl sm nt a s t s t
-  pin-skip s t seen e = record {
-    grown = grown-none _ s.q s.w t;
+  pub pin_skip : (s : St) (t : ℕ) → Seen bk fs ms ws fl s.w s.sn → Enough (get_or s.sn (get_or nt a 0) 0) k → PinDone bk fs ms ws fl sm nt a s t s t
+  pin_skip s t seen e = record {
+    grown = grown_none _ s.q s.w t;
     marked = record { len = refl; kept = λ n h. refl; opens = λ m i. inl i };
     seen = seen;
     done = λ k' b h. ⊎_elim
         (λ l. seen.whole (get_or nt a 0) v.net l b h.enters)
-        (λ p. let one = p.1 in seen.part (get_or nt a 0) v.net (omega arith) b h.enters (only-back bk fl _ _ k k' a b takes et kd p.0 h.way))
+        (λ p. let one = p.1 in seen.part (get_or nt a 0) v.net (omega arith) b h.enters (only_back bk fl _ _ k k' a b takes et kd p.0 h.way))
         e;
   }
 
   module _ (all : Bool) (ea : k ≡ 2 → all ≡ false) (eb : (k ≡ 2 → ⊥) → all ≡ true) (from undo r : ℕ) (ef : from ≡ (a * 4 + k) * 65536) (eu : undo ≡ (a * 4 + 2) * 65536) (r1 : k ≡ 2 → r ≡ 1) (r2 : (k ≡ 2 → ⊥) → r ≡ a + 2) where
-    pub pin-spread : (s : St) (t : ℕ) (q w : List ℕ) (t' : ℕ) → Seen bk fs ms ws fl s.w s.sn → (Enough (get_or s.sn (get_or nt a 0) 0) k → ⊥) → get_or nt a 0 < length s.sn →
+    pub pin_spread : (s : St) (t : ℕ) (q w : List ℕ) (t' : ℕ) → Seen bk fs ms ws fl s.w s.sn → (Enough (get_or s.sn (get_or nt a 0) 0) k → ⊥) → get_or nt a 0 < length s.sn →
         Spread ms fl all bk from undo (get_or fs (get_or nt a 0) 0) (get_or fs (get_or nt a 0 + 1) 0) s.q s.w t q w t' →
         PinDone bk fs ms ws fl sm nt a s t (st q w (set s.sn (get_or nt a 0) r)) t'
-    pin-spread s t q w t' seen ne ln sp = record {
+    pin_spread s t q w t' seen ne ln sp = record {
       grown = grown-map via sp.grown;
       marked = record { len = length-set s.sn n r; kept = λ n' h. get_or-set_other s.sn n n' r 0 (λ e. ne (inl (subst (λ (i : ℕ). 1 < get_or s.sn i 0) e h))); opens = opens };
       seen = record { part = part; whole = whole };
-      done = λ k' b h. sp.done b h.enters (way-picks bk fl _ _ k k' a b takes all et kd eb h.way);
+      done = λ k' b h. sp.done b h.enters (way_picks bk fl _ _ k k' a b takes all et kd eb h.way);
     }
       where
         n : ℕ
@@ -119,14 +119,14 @@ module _ (bk : Bool) (fs ms ws : List ℕ) (fl : List ℤ) (sm nt : List ℕ) (a
         reads : (m x : ℕ) → (y : ViaNet ms fl all bk from undo (get_or fs n 0) (get_or fs (n + 1) 0) m x) → Read a (kind_to (ltb 0 (gift bk fl y.at)) k) y.at x
         reads m x y = told m x y (ltb 0 (gift bk fl y.at)) y.number
 
-        way-to : (b : ℕ) (g : Bool) → (g ≡ true → 0 < gift bk fl b) → or all (ltb 0 (gift bk fl b)) ≡ true → Way bk fl (get_or sm n 0) (get_or ws n 0) (kind_to g k) a b
-        way-to b true f g = way_back bk fl _ _ a b (f refl)
-        way-to b false f g = way_of bk fl _ _ k a b takes all et kd ea g
+        way_to : (b : ℕ) (g : Bool) → (g ≡ true → 0 < gift bk fl b) → or all (ltb 0 (gift bk fl b)) ≡ true → Way bk fl (get_or sm n 0) (get_or ws n 0) (kind_to g k) a b
+        way_to b true f g = way_back bk fl _ _ a b (f refl)
+        way_to b false f g = way_of bk fl _ _ k a b takes all et kd ea g
 
         via : (m x : ℕ) → ViaNet ms fl all bk from undo (get_or fs n 0) (get_or fs (n + 1) 0) m x → ViaHop bk fs ms ws fl sm nt (get_or ms a 0) m x
         via m x y = let z = reads m x y in record {
           from = ap (λ (i : ℕ). get_or ms i 0) z.left;
-          hop = rw (z.left, z.kind, z.entered) (record { leaves = v.on; enters = y.pin; small = v.net; way = way-to y.at (ltb 0 (gift bk fl y.at)) (above-true (gift bk fl y.at)) y.gives });
+          hop = rw (z.left, z.kind, z.entered) (record { leaves = v.on; enters = y.pin; small = v.net; way = way_to y.at (ltb 0 (gift bk fl y.at)) (above_true (gift bk fl y.at)) y.gives });
           to = ap (λ (i : ℕ). get_or ms i 0) z.entered ∙ y.to;
         }
 
@@ -145,7 +145,7 @@ module _ (bk : Bool) (fs ms ws : List ℕ) (fl : List ℤ) (sm nt : List ℕ) (a
         part n' l h b p g = go (ℕ_discrete n' n)
           where
             go : Dec (n' ≡ n) → In w (get_or ms b 0)
-            go (yes e) = sp.done b (subst (λ (i : ℕ). Pin (get_or fs i 0) (get_or fs (i + 1) 0) b) e p) (or_right all (true-above (gift bk fl b) g))
+            go (yes e) = sp.done b (subst (λ (i : ℕ). Pin (get_or fs i 0) (get_or fs (i + 1) 0) b) e p) (or_right all (true_above (gift bk fl b) g))
             go (no e) = grows sp.grown (get_or ms b 0) (seen.part n' l (subst (λ (i : ℕ). 0 < i) (get_or-set_other s.sn n n' r 0 e) h) b p g)
 
         whole : (n' : ℕ) → n' < length ws → 1 < get_or sn' n' 0 → (b : ℕ) → Pin (get_or fs n' 0) (get_or fs (n' + 1) 0) b → In w (get_or ms b 0)
@@ -158,18 +158,18 @@ module _ (bk : Bool) (fs ms ws : List ℕ) (fl : List ℤ) (sm nt : List ℕ) (a
                 (rw (eb (λ q. let o = r1 q in absurd (omega arith))))
             go (no e) = grows sp.grown (get_or ms b 0) (seen.whole n' l (subst (λ (i : ℕ). 1 < i) (get_or-set_other s.sn n n' r 0 e) h) b p)
 
-pub kind-all : (k : ℕ) → k ≡ 2 → not (eqb k 2) ≡ false
-kind-all k e = rw e
+pub kind_all : (k : ℕ) → k ≡ 2 → not (eqb k 2) ≡ false
+kind_all k e = rw e
 
-pub kind-some : (k : ℕ) → (k ≡ 2 → ⊥) → not (eqb k 2) ≡ true
-kind-some k n = go (eqb k 2) (eqb→eq k 2)
+pub kind_some : (k : ℕ) → (k ≡ 2 → ⊥) → not (eqb k 2) ≡ true
+kind_some k n = go (eqb k 2) (eqb→eq k 2)
   where
     go : (b : Bool) → (T b → k ≡ 2) → not b ≡ true
     go true f = absurd (n (f tt))
     go false f = refl
 
-pub enough-eq : (s k : ℕ) → k ≡ 2 → s ≤ 1 → (eqb s 1 ≡ true → Enough s k) × (eqb s 1 ≡ false → Enough s k → ⊥)
-enough-eq s k e l = (
+pub enough_eq : (s k : ℕ) → k ≡ 2 → s ≤ 1 → (eqb s 1 ≡ true → Enough s k) × (eqb s 1 ≡ false → Enough s k → ⊥)
+enough_eq s k e l = (
   (λ t. inr (e, eqb→eq s 1 (subst T (sym t) tt))),
   (λ f g. ⊎_elim (λ h. absurd (omega arith)) (λ p. clash (ap (λ (i : ℕ). eqb i 1) p.1) f) g),
 )
@@ -179,11 +179,11 @@ enough-eq s k e l = (
 abbrev Opened : List ℕ → List ℕ → ℕ → Type 0
 Opened nt sn x = kind x ≡ 0 → get_or sn (get_or nt (left x) 0) 0 ≡ left x + 2
 
-pub marked-none : (nt : List ℕ) (s : St) → Marked nt s s
-marked-none nt s = record { len = refl; kept = λ n h. refl; opens = λ m i. inl i }
+pub marked_none : (nt : List ℕ) (s : St) → Marked nt s s
+marked_none nt s = record { len = refl; kept = λ n h. refl; opens = λ m i. inl i }
 
-pub marked-trans : {nt : List ℕ} {New : ℕ → ℕ → Type 0} {s₀ s₁ s₂ : St} {t₁ t₂ : ℕ} → Grown New s₁.q s₁.w t₁ s₂.q s₂.w t₂ → Marked nt s₀ s₁ → Marked nt s₁ s₂ → Marked nt s₀ s₂
-marked-trans {nt} {New} {s₀} {s₁} {s₂} g m n = record {
+pub marked_trans : {nt : List ℕ} {New : ℕ → ℕ → Type 0} {s₀ s₁ s₂ : St} {t₁ t₂ : ℕ} → Grown New s₁.q s₁.w t₁ s₂.q s₂.w t₂ → Marked nt s₀ s₁ → Marked nt s₁ s₂ → Marked nt s₀ s₂
+marked_trans {nt} {New} {s₀} {s₁} {s₂} g m n = record {
   len = n.len ∙ m.len;
   kept = λ k h. let e = m.kept k h in n.kept k (omega arith) ∙ e;
   opens = λ i h. ⊎_elim (λ j. ⊎_elim inl (λ f. inr (old i j f)) (m.opens i j)) inr (n.opens i h);
@@ -194,8 +194,8 @@ marked-trans {nt} {New} {s₀} {s₁} {s₂} g m n = record {
         (λ e. let o = f e in n.kept (get_or nt (left (get_or s₁.w i 0)) 0) (omega arith) ∙ o)
 
 module _ (bk : Bool) (fs ms ws : List ℕ) (fl : List ℤ) (sm nt at pl : List ℕ) where
-  pub visit-of : {M u i : ℕ} → Whole fs ms ws nt at pl sm fl M → u < M → Pin (get_or at u 0) (get_or at (u + 1) 0) i → Visit fs ms ws nt sm fl (get_or pl i 0)
-  visit-of {M} {u} {i} w l p =
+  pub visit_of : {M u i : ℕ} → Whole fs ms ws nt at pl sm fl M → u < M → Pin (get_or at u 0) (get_or at (u + 1) 0) i → Visit fs ms ws nt sm fl (get_or pl i 0)
+  visit_of {M} {u} {i} w l p =
       let a = get_or pl i 0 in
       let o = w.tables.own u i l p in
       let q = w.tables.net a o.0 in record {
@@ -210,21 +210,21 @@ module _ (bk : Bool) (fs ms ws : List ℕ) (fl : List ℤ) (sm nt at pl : List �
         ends = w.tables.inside (get_or nt a 0) q.0;
       }
 
-  pub pins-start : (u lo : ℕ) (s : St) (t : ℕ) → Seen bk fs ms ws fl s.w s.sn → PinsDone bk fs ms ws fl sm nt pl u lo lo s t s t
-  pins-start u lo s t seen = record {
-    grown = grown-none _ s.q s.w t;
-    marked = marked-none nt s;
+  pub pins_start : (u lo : ℕ) (s : St) (t : ℕ) → Seen bk fs ms ws fl s.w s.sn → PinsDone bk fs ms ws fl sm nt pl u lo lo s t s t
+  pins_start u lo s t seen = record {
+    grown = grown_none _ s.q s.w t;
+    marked = marked_none nt s;
     seen = seen;
-    done = pins-none (λ (j : ℕ). (k b : ℕ) → Hop bk fs ws fl sm nt k (get_or pl j 0) b → In s.w (get_or ms b 0)) lo;
+    done = pins_none (λ (j : ℕ). (k b : ℕ) → Hop bk fs ws fl sm nt k (get_or pl j 0) b → In s.w (get_or ms b 0)) lo;
   }
 
-  pub pins-step : {u lo i t₀ t₁ t₂ : ℕ} {s₀ s₁ s₂ : St} → PinsDone bk fs ms ws fl sm nt pl u lo i s₀ t₀ s₁ t₁ → get_or ms (get_or pl i 0) 0 ≡ u
+  pub pins_step : {u lo i t₀ t₁ t₂ : ℕ} {s₀ s₁ s₂ : St} → PinsDone bk fs ms ws fl sm nt pl u lo i s₀ t₀ s₁ t₁ → get_or ms (get_or pl i 0) 0 ≡ u
       → PinDone bk fs ms ws fl sm nt (get_or pl i 0) s₁ t₁ s₂ t₂ → PinsDone bk fs ms ws fl sm nt pl u lo (i + 1) s₀ t₀ s₂ t₂
-  pins-step {u} {lo} {i} {t₀} {t₁} {t₂} {s₀} {s₁} {s₂} d e p = record {
-    grown = grown-trans d.grown (subst (λ (v : ℕ). Grown (ViaHop bk fs ms ws fl sm nt v) s₁.q s₁.w t₁ s₂.q s₂.w t₂) e p.grown);
-    marked = marked-trans p.grown d.marked p.marked;
+  pins_step {u} {lo} {i} {t₀} {t₁} {t₂} {s₀} {s₁} {s₂} d e p = record {
+    grown = grown_trans d.grown (subst (λ (v : ℕ). Grown (ViaHop bk fs ms ws fl sm nt v) s₁.q s₁.w t₁ s₂.q s₂.w t₂) e p.grown);
+    marked = marked_trans p.grown d.marked p.marked;
     seen = p.seen;
-    done = pins-more (λ (j : ℕ). (k b : ℕ) → Hop bk fs ws fl sm nt k (get_or pl j 0) b → In s₂.w (get_or ms b 0)) lo i
+    done = pins_more (λ (j : ℕ). (k b : ℕ) → Hop bk fs ws fl sm nt k (get_or pl j 0) b → In s₂.w (get_or ms b 0)) lo i
         (λ j q k b h. grows p.grown (get_or ms b 0) (d.done j q k b h))
         p.done;
   }

@@ -13,19 +13,19 @@ use Rattle.line.specs.Card.{Card, price, Far, outside}
 use Rattle.line.specs.Flow.{sent, taken, total_sent, NetRule, Fair, value, meters}
 use Rattle.line.proofs.Ways.{plainly}
 use Rattle.line.proofs.WayFlow.{Valid}
-use Rattle.line.proofs.Index.{net_at, start-in, numbers, each_at}
-use Rattle.line.proofs.Push.{more-sent, more-taken}
+use Rattle.line.proofs.Index.{net_at, start_in, numbers, each_at}
+use Rattle.line.proofs.Push.{more_sent, more_taken}
 use Rattle.line.proofs.Path.{Spare}
-use Rattle.line.proofs.Tree.{Tree, walk-sound, walk-every, walk-pairwise, walk-leads, meters-separate}
-use Rattle.line.proofs.Turn.{Reached, turn, turn_mark, mark-1, negs, sent-negs, taken-negs, numbers-negs, total_sent-negs, valid-turn, reached-far, search-near}
-use Rattle.line.proofs.Cheap.{far-plain}
-use Rattle.line.proofs.Duality.{fair-plain, closed-plain, plain_closed, weak-duality, closed-price, price-closed}
+use Rattle.line.proofs.Tree.{Tree, walk_sound, walk_every, walk_pairwise, walk_leads, meters_separate}
+use Rattle.line.proofs.Turn.{Reached, turn, turn_mark, mark_1, negs, sent-negs, taken-negs, numbers-negs, total_sent-negs, valid_turn, reached_far, search_near}
+use Rattle.line.proofs.Cheap.{far_plain}
+use Rattle.line.proofs.Duality.{fair_plain, closed_plain, plain_closed, weak_duality, closed_price, price_closed}
 use Rattle.flow.specs.Search.{In, left, entered, St, Link, Found, Tables, Whole}
 use Rattle.flow.specs.Cards.{card_of, Laid, Grid, side_of, up_of}
 use Rattle.flow.specs.Push.{Trod}
 use Rattle.flow.specs.Raise.{Field, Route, Steady, OpenWay, Gained, Summed, Summable, part_of, Raised, Greatest}
-use Rattle.flow.proofs.CardLaws.{Made, card-made, card-valid, card-modules, card-mark, grid-of, run-net}
-use Rattle.flow.proofs.TreeLaws.{rank_of, opener_of, Sees, found-tree, found-spare, found-reached}
+use Rattle.flow.proofs.CardLaws.{Made, card_made, card_valid, card_modules, card_mark, grid_of, run_net}
+use Rattle.flow.proofs.TreeLaws.{rank_of, opener_of, Sees, found_tree, found_spare, found_reached}
 
 -- ---- one search
 
@@ -35,13 +35,13 @@ module _ (fs ms ws nt at pl mk : List ℕ) (laid : Laid fs ms ws mk) (tables : T
   c = card_of fs ms ws mk
 
   made : Made (card_of fs ms ws mk) fs ms ws
-  made = card-made fs ms ws mk laid
+  made = card_made fs ms ws mk laid
 
   grid : Grid (card_of fs ms ws mk) ms nt
-  grid = grid-of (card_of fs ms ws mk) fs ms ws nt at pl (length mk) made tables
+  grid = grid_of (card_of fs ms ws mk) fs ms ws nt at pl (length mk) made tables
 
   valid : Valid (card_of fs ms ws mk)
-  valid = card-valid fs ms ws mk laid
+  valid = card_valid fs ms ws mk laid
 
   pub whole_of : Whole fs ms ws nt at pl sm fl (length mk)
   whole_of = record { tables = tables; firsts = laid.firsts; below = laid.below; flows = s.flows; sums = s.sums.len ∙ made.nets; few = few }
@@ -59,9 +59,9 @@ module _ (fs ms ws nt at pl mk : List ℕ) (laid : Laid fs ms ws mk) (tables : T
         let a = h.leaves.high in
         let b = h.enters.high in record {
           in_left = omega arith;
-          in-entered = omega arith;
+          in_entered = omega arith;
           net = omega (arith, h.small, made.nets);
-          same = run-net (card_of fs ms ws mk) fs ms ws nt made grid n (entered x) h.small h.enters;
+          same = run_net (card_of fs ms ws mk) fs ms ws nt made grid n (entered x) h.small h.enters;
           from = k.from;
           lower = k.lower;
         }
@@ -78,8 +78,8 @@ module _ (fs ms ws nt at pl mk : List ℕ) (laid : Laid fs ms ws mk) (tables : T
           step = λ m i n. ⊎_elim (λ e. absurd (n e)) (trod m) (found.link m i);
         };
         valid = valid;
-        modules = card-modules fs ms ws mk laid;
-        mark = card-mark fs ms ws mk laid;
+        modules = card_modules fs ms ws mk laid;
+        mark = card_mark fs ms ws mk laid;
         weights = λ e l. let l' : e < length ws = omega (arith, made.nets) in omega (arith, heavy e l', made.weight e l');
       };
       nets = made.nets;
@@ -87,39 +87,39 @@ module _ (fs ms ws nt at pl mk : List ℕ) (laid : Laid fs ms ws mk) (tables : T
     }
 
     tree : Tree plainly (card_of fs ms ws mk) (rank_of t.w) (opener_of (card_of fs ms ws mk) t.sn) (up_of (card_of fs ms ws mk) nt t.w) (side_of t.w)
-    tree = found-tree false fs ms ws fl sm nt mk (card_of fs ms ws mk) fl made grid valid (card-modules fs ms ws mk laid)
-        (λ m e. sym (card-mark fs ms ws mk laid m) ∙ e) (λ m e. card-mark fs ms ws mk laid m ∙ e) sees t found
+    tree = found_tree false fs ms ws fl sm nt mk (card_of fs ms ws mk) fl made grid valid (card_modules fs ms ws mk laid)
+        (λ m e. sym (card_mark fs ms ws mk laid m) ∙ e) (λ m e. card_mark fs ms ws mk laid m ∙ e) sees t found
 
     spares : (m : ℕ) → T (side_of t.w m) → (card_of fs ms ws mk).mark m ≢ 1 → Spare (card_of fs ms ws mk) fl 1 (up_of (card_of fs ms ws mk) nt t.w m)
-    spares = found-spare false fs ms ws fl sm nt mk (card_of fs ms ws mk) fl made grid valid (card-modules fs ms ws mk laid)
-        (λ m e. sym (card-mark fs ms ws mk laid m) ∙ e) (λ m e. card-mark fs ms ws mk laid m ∙ e) sees t found
+    spares = found_spare false fs ms ws fl sm nt mk (card_of fs ms ws mk) fl made grid valid (card_modules fs ms ws mk laid)
+        (λ m e. sym (card_mark fs ms ws mk laid m) ∙ e) (λ m e. card_mark fs ms ws mk laid m ∙ e) sees t found
 
     reached : Reached plainly (card_of fs ms ws mk) fl (side_of t.w)
-    reached = found-reached false fs ms ws fl sm nt mk (card_of fs ms ws mk) fl made grid valid (card-modules fs ms ws mk laid)
-        (λ m e. sym (card-mark fs ms ws mk laid m) ∙ e) (λ m e. card-mark fs ms ws mk laid m ∙ e) sees t found
+    reached = found_reached false fs ms ws fl sm nt mk (card_of fs ms ws mk) fl made grid valid (card_modules fs ms ws mk laid)
+        (λ m e. sym (card_mark fs ms ws mk laid m) ∙ e) (λ m e. card_mark fs ms ws mk laid m ∙ e) sees t found
 
     module _ (z : ℕ) (lz : z < length mk) (e : get_or mk z 0 ≡ 2) (i : In t.w z) where
       low : z < (card_of fs ms ws mk).modules
-      low = omega (arith, card-modules fs ms ws mk laid)
+      low = omega (arith, card_modules fs ms ws mk laid)
 
-      in-side : T (side_of t.w z)
-      in-side = lt→ltb 0 (get_or t.w z 0) i
+      in_side : T (side_of t.w z)
+      in_side = lt→ltb 0 (get_or t.w z 0) i
 
-      pub route-of : Route (card_of fs ms ws mk) nt mk t.w z
-      route-of = record {
+      pub route_of : Route (card_of fs ms ws mk) nt mk t.w z
+      route_of = record {
         from = i;
-        maker = card-mark fs ms ws mk laid z ∙ e;
-        sound = walk-sound plainly (card_of fs ms ws mk) valid (rank_of t.w) (opener_of (card_of fs ms ws mk) t.sn) (up_of (card_of fs ms ws mk) nt t.w) (side_of t.w) tree (suc (length mk)) z low in-side;
-        apart = walk-pairwise plainly (card_of fs ms ws mk) valid (rank_of t.w) (opener_of (card_of fs ms ws mk) t.sn) (up_of (card_of fs ms ws mk) nt t.w) (side_of t.w) tree (suc (length mk)) z low in-side;
-        leads = walk-leads plainly (card_of fs ms ws mk) valid (rank_of t.w) (opener_of (card_of fs ms ws mk) t.sn) (up_of (card_of fs ms ws mk) nt t.w) (side_of t.w) tree (suc (length mk)) z low in-side
+        maker = card_mark fs ms ws mk laid z ∙ e;
+        sound = walk_sound plainly (card_of fs ms ws mk) valid (rank_of t.w) (opener_of (card_of fs ms ws mk) t.sn) (up_of (card_of fs ms ws mk) nt t.w) (side_of t.w) tree (suc (length mk)) z low in_side;
+        apart = walk_pairwise plainly (card_of fs ms ws mk) valid (rank_of t.w) (opener_of (card_of fs ms ws mk) t.sn) (up_of (card_of fs ms ws mk) nt t.w) (side_of t.w) tree (suc (length mk)) z low in_side;
+        leads = walk_leads plainly (card_of fs ms ws mk) valid (rank_of t.w) (opener_of (card_of fs ms ws mk) t.sn) (up_of (card_of fs ms ws mk) nt t.w) (side_of t.w) tree (suc (length mk)) z low in_side
             (omega (arith, (found.ranks z i).1));
       }
 
       pub open_of : OpenWay (card_of fs ms ws mk) nt mk t.w fl z
-      open_of = walk-every plainly (card_of fs ms ws mk) valid (rank_of t.w) (opener_of (card_of fs ms ws mk) t.sn) (up_of (card_of fs ms ws mk) nt t.w) (side_of t.w) tree (Spare (card_of fs ms ws mk) fl 1) (λ m l i n. spares m i n) (suc (length mk)) z low in-side
+      open_of = walk_every plainly (card_of fs ms ws mk) valid (rank_of t.w) (opener_of (card_of fs ms ws mk) t.sn) (up_of (card_of fs ms ws mk) nt t.w) (side_of t.w) tree (Spare (card_of fs ms ws mk) fl 1) (λ m l i n. spares m i n) (suc (length mk)) z low in_side
 
-    no-maker : ((z : ℕ) → z < length mk → get_or mk z 0 ≡ 2 → In t.w z → ⊥) → (m : ℕ) → m < (card_of fs ms ws mk).modules → (card_of fs ms ws mk).mark m ≡ 2 → T (not (side_of t.w m))
-    no-maker n m l e = go (side_of t.w m) (λ h. n m (omega (arith, card-modules fs ms ws mk laid)) (sym (card-mark fs ms ws mk laid m) ∙ e) (ltb→lt 0 (get_or t.w m 0) h))
+    no_maker : ((z : ℕ) → z < length mk → get_or mk z 0 ≡ 2 → In t.w z → ⊥) → (m : ℕ) → m < (card_of fs ms ws mk).modules → (card_of fs ms ws mk).mark m ≡ 2 → T (not (side_of t.w m))
+    no_maker n m l e = go (side_of t.w m) (λ h. n m (omega (arith, card_modules fs ms ws mk laid)) (sym (card_mark fs ms ws mk laid m) ∙ e) (ltb→lt 0 (get_or t.w m 0) h))
       where
         go : (b : Bool) → (T b → ⊥) → T (not b)
         go true f = absurd (f tt)
@@ -131,8 +131,8 @@ module _ (fs ms ws nt at pl mk : List ℕ) (laid : Laid fs ms ws mk) (tables : T
       fair = s.fair;
       flows = s.flows;
       sums = s.sums;
-      value = closed-price (card_of fs ms ws mk) valid fl s.fair (side_of t.w) (record { meters = reached.meters; makers = no-maker n }) (closed-plain (card_of fs ms ws mk) (side_of t.w) fl reached.closed);
-      near = search-near (card_of fs ms ws mk) valid fl s.fair (side_of t.w) reached (no-maker n);
+      value = closed_price (card_of fs ms ws mk) valid fl s.fair (side_of t.w) (record { meters = reached.meters; makers = no_maker n }) (closed_plain (card_of fs ms ws mk) (side_of t.w) fl reached.closed);
+      near = search_near (card_of fs ms ws mk) valid fl s.fair (side_of t.w) reached (no_maker n);
     }
 
 -- ---- the rounds end
@@ -145,22 +145,22 @@ sent-le : (z : ℤ) (n : ℕ) → z ≤ℤ pos n → sent z ≤ n
 sent-le (pos m) n h = leb→le m n h.le
 sent-le (negsuc m) n h = omega arith
 
-pub comes-less : (c : Card) → Valid c → (ms sm sm' : List ℕ) (fl fl' : List ℤ) (g : Gained c ms sm fl sm' fl') → 0 < g.more → to_come c fl' < to_come c fl
-comes-less c valid ms sm sm' fl fl' g h =
-    let p = sent-le (value c fl') (price c.nets (meters c)) (weak-duality c valid fl' g.steady.fair (meters c) (meters-separate c)) in
+pub comes_less : (c : Card) → Valid c → (ms sm sm' : List ℕ) (fl fl' : List ℤ) (g : Gained c ms sm fl sm' fl') → 0 < g.more → to_come c fl' < to_come c fl
+comes_less c valid ms sm sm' fl fl' g h =
+    let p = sent-le (value c fl') (price c.nets (meters c)) (weak_duality c valid fl' g.steady.fair (meters c) (meters_separate c)) in
     let e = ap sent g.gain in
     let f = ap taken g.gain in
-    omega (arith, more-sent (value c fl) g.more, more-taken (value c fl) g.more)
+    omega (arith, more_sent (value c fl) g.more, more_taken (value c fl) g.more)
 
 -- ---- the far side
 
 module _ (fs ms ws nt at pl mk : List ℕ) (laid : Laid fs ms ws mk) (tables : Tables fs ms ws nt at pl (length mk)) (few : length ms < 16384)
     (sm : List ℕ) (fl : List ℤ) (g : Greatest (card_of fs ms ws mk) ms sm fl) where
-  card-made' : Made (turn (card_of fs ms ws mk)) fs ms ws
-  card-made' = let m = card-made fs ms ws mk laid in record { nets = m.nets; weight = m.weight; first = m.first; size = m.size; pins = m.pins }
+  card_made' : Made (turn (card_of fs ms ws mk)) fs ms ws
+  card_made' = let m = card_made fs ms ws mk laid in record { nets = m.nets; weight = m.weight; first = m.first; size = m.size; pins = m.pins }
 
   grid' : Grid (turn (card_of fs ms ws mk)) ms nt
-  grid' = grid-of (turn (card_of fs ms ws mk)) fs ms ws nt at pl (length mk) card-made' tables
+  grid' = grid_of (turn (card_of fs ms ws mk)) fs ms ws nt at pl (length mk) card_made' tables
 
   sees' : Sees true (turn (card_of fs ms ws mk)) sm fl (negs fl)
   sees' = record {
@@ -170,46 +170,46 @@ module _ (fs ms ws nt at pl mk : List ℕ) (laid : Laid fs ms ws mk) (tables : T
         ap total_sent (numbers-negs ns fl e) ∙ total_sent-negs (numbers ns fl e) (each_at NetRule ns fl g.steady.fair.nets e l).zero ∙ sym (g.steady.sums.sum e l);
   }
 
-  pub far-of : (t : St) → Found true fs ms ws fl sm nt mk t → Far (card_of fs ms ws mk) (outside (side_of t.w))
-  far-of t found =
+  pub far_of : (t : St) → Found true fs ms ws fl sm nt mk t → Far (card_of fs ms ws mk) (outside (side_of t.w))
+  far_of t found =
       let c = card_of fs ms ws mk in
-      let valid = card-valid fs ms ws mk laid in
-      let mark = card-mark fs ms ws mk laid in
+      let valid = card_valid fs ms ws mk laid in
+      let mark = card_mark fs ms ws mk laid in
       let fair = g.steady.fair in
-      far-plain c (outside (side_of t.w))
-      (reached-far plainly c valid fl (fair-plain c fl fair) g.side g.separates
-      (plain_closed c g.side fl (price-closed c valid fl fair g.side g.separates g.value))
+      far_plain c (outside (side_of t.w))
+      (reached_far plainly c valid fl (fair_plain c fl fair) g.side g.separates
+      (plain_closed c g.side fl (price_closed c valid fl fair g.side g.separates g.value))
       (side_of t.w)
-      (found-reached true fs ms ws fl sm nt mk (turn c) (negs fl) card-made' grid' (valid-turn c valid) (card-modules fs ms ws mk laid)
-      (λ m e. sym (mark m) ∙ mark-1 (c.mark m) e) (λ m e. ap turn_mark (mark m ∙ e)) sees' t found))
+      (found_reached true fs ms ws fl sm nt mk (turn c) (negs fl) card_made' grid' (valid_turn c valid) (card_modules fs ms ws mk laid)
+      (λ m e. sym (mark m) ∙ mark_1 (c.mark m) e) (λ m e. ap turn_mark (mark m ∙ e)) sees' t found))
 
 -- ---- what raise begins with
 
 module _ (fs ms ws mk : List ℕ) (laid : Laid fs ms ws mk) (heavy : (e : ℕ) → e < length ws → get_or ws e 0 ≤ 65535) (fl : List ℤ)
     (fair : Fair (card_of fs ms ws mk) fl) (flows : length fl ≡ length ms) where
-  numbers-part : (e : ℕ) → e < length ws → numbers (card_of fs ms ws mk).nets fl e ≡ part_of fs fl e
-  numbers-part e l =
-      let m = card-made fs ms ws mk laid in
+  numbers_part : (e : ℕ) → e < length ws → numbers (card_of fs ms ws mk).nets fl e ≡ part_of fs fl e
+  numbers_part e l =
+      let m = card_made fs ms ws mk laid in
       let k : length (net_at (card_of fs ms ws mk).nets e).pins ≡ get_or fs (e + 1) 0 - get_or fs e 0 = omega (arith, m.size e l) in
       ap₂ (λ (i j : ℕ). take i (drop j fl)) k (m.first e l)
 
-  pub summable-of : (N : ℕ) → N ≡ length ws → Summable fs fl N
-  summable-of N e_n =
-      let m = card-made fs ms ws mk laid in record {
+  pub summable_of : (N : ℕ) → N ≡ length ws → Summable fs fl N
+  summable_of N e_n =
+      let m = card_made fs ms ws mk laid in record {
         firsts = omega (arith, laid.firsts);
         rises = λ n l. laid.rises n (omega arith);
         ends = λ n l. let l' : n < length ws = omega arith in
             let i : n < length (card_of fs ms ws mk).nets = omega (arith, m.nets) in
-            omega (arith, m.first n l', m.size n l', start-in (card_of fs ms ws mk).nets n i, ap length m.pins);
+            omega (arith, m.first n l', m.size n l', start_in (card_of fs ms ws mk).nets n i, ap length m.pins);
         few = λ n l. let l' : n < length ws = omega arith in
             let i : n < length (card_of fs ms ws mk).nets = omega (arith, m.nets) in
-            omega (arith, ap total_sent (numbers-part n l'), (each_at NetRule (card_of fs ms ws mk).nets fl fair.nets n i).fits, m.weight n l', heavy n l');
+            omega (arith, ap total_sent (numbers_part n l'), (each_at NetRule (card_of fs ms ws mk).nets fl fair.nets n i).fits, m.weight n l', heavy n l');
       }
 
-  pub steady-of : (sm : List ℕ) → length sm ≡ length ws → Summed fs fl (length sm) sm → Steady (card_of fs ms ws mk) ms sm fl
-  steady-of sm ls su =
-      let m = card-made fs ms ws mk laid in record {
+  pub steady_of : (sm : List ℕ) → length sm ≡ length ws → Summed fs fl (length sm) sm → Steady (card_of fs ms ws mk) ms sm fl
+  steady_of sm ls su =
+      let m = card_made fs ms ws mk laid in record {
         fair = fair;
-        sums = record { len = ls ∙ sym m.nets; sum = λ e l. let l' : e < length ws = omega (arith, m.nets) in su.sum e (omega arith) ∙ sym (ap total_sent (numbers-part e l')) };
+        sums = record { len = ls ∙ sym m.nets; sum = λ e l. let l' : e < length ws = omega (arith, m.nets) in su.sum e (omega arith) ∙ sym (ap total_sent (numbers_part e l')) };
         flows = flows;
       }

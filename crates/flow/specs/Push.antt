@@ -24,7 +24,7 @@ way_room ms ws nt mk w sm fl (suc k) u =
 -- a module that was reached, and is no meter, was reached by two pins from a module of lower rank
 pub record Trod (ms nt w : List ℕ) (N m : ℕ) : Type 0 where
   pub in_left : left (get_or w m 0) < length ms
-  pub in-entered : entered (get_or w m 0) < length ms
+  pub in_entered : entered (get_or w m 0) < length ms
   pub net : get_or nt (left (get_or w m 0)) 0 < N
   pub same : get_or nt (entered (get_or w m 0)) 0 ≡ get_or nt (left (get_or w m 0)) 0
   pub from : In w (get_or ms (left (get_or w m 0)) 0)
@@ -80,14 +80,14 @@ new_sum fl a b d s = s + (sent (get_or fl a (pos 0) +ℤ pos d) + sent (get_or f
 
 -- what one push needs
 pub record Pushable (fl : List ℤ) (sm nt : List ℕ) (d a b : ℕ) : Type 0 where
-  pub in-a : a < length fl
+  pub in_a : a < length fl
   pub in_b : b < length fl
   pub nts : length nt ≡ length fl
   pub few : length fl < 16384
   pub apart : a ≢ b
   pub amount : d ≤ 65535
   pub net : get_or nt a 0 < length sm
-  pub small-a : Small (get_or fl a (pos 0))
+  pub small_a : Small (get_or fl a (pos 0))
   pub small_b : Small (get_or fl b (pos 0))
   pub sum : get_or sm (get_or nt a 0) 0 ≤ 65535
   pub held : sent (get_or fl a (pos 0)) + sent (get_or fl b (pos 0)) ≤ get_or sm (get_or nt a 0) 0

@@ -13,20 +13,20 @@ use Rattle.gate.specs.Gates.{zero_f, one_f, dbl, Exactly}
 use Rattle.gate.proofs.Rounds.{no_size}
 
 -- ---- a whole number of 256ths, or of 65536ths, below 2 ^ 53 of them, is a double
-pub exact-256 : (n : ℕ) → n < 2 ^ 53 → HasValue (round binary64 false n 256) false n 256
-exact-256 n h =
+pub exact_256 : (n : ℕ) → n < 2 ^ 53 → HasValue (round binary64 false n 256) false n 256
+exact_256 n h =
     round_exact binary64 false n 256 n 1066 (lit< tt) h (lt_of_lt_of_le (shl_lt 53 1066 h) (pow_mono {i = 1119} {j = 2098} (lit≤ tt)))
     (sym (mul_assoc n (2 ^ 1066) 256))
 
-pub exact-65536 : (n : ℕ) → n < 2 ^ 53 → HasValue (round binary64 false n 65536) false n 65536
-exact-65536 n h =
+pub exact_65536 : (n : ℕ) → n < 2 ^ 53 → HasValue (round binary64 false n 65536) false n 65536
+exact_65536 n h =
     round_exact binary64 false n 65536 n 1058 (lit< tt) h (lt_of_lt_of_le (shl_lt 53 1058 h) (pow_mono {i = 1111} {j = 2098} (lit≤ tt)))
     (sym (mul_assoc n (2 ^ 1058) 65536))
 
 -- a whole number is a double
-pub dbl-value : (n : ℕ) → n ≤ 2 ^ 53 → HasValue (dbl n) false n 1
+pub dbl_value : (n : ℕ) → n ≤ 2 ^ 53 → HasValue (dbl n) false n 1
 unfolding of_int
-dbl-value n h = round_whole binary64 false n h
+dbl_value n h = round_whole binary64 false n h
 
 -- ---- `HasValue` with no sign, and `Exactly`
 pub exactly : (x : Float) (a c : ℕ) → HasValue x false a c → Exactly x a c
@@ -43,12 +43,12 @@ has_value (fin false m e) a c p h = (refl, h.1)
 has_value (fin true m e) a c p h = absurd p
 
 -- ---- a number of 256ths below 1 is below 256
-pub under-256 : (x : Float) (a : ℕ) → Exactly x a 256 → T (lt x one_f) → a < 256
+pub under_256 : (x : Float) (a : ℕ) → Exactly x a 256 → T (lt x one_f) → a < 256
 unfolding lt
-under-256 nan a h t = absurd h
-under-256 (inf s) a h t = absurd h
-under-256 (fin true m e) a h t = let z : a ≡ 0 = no_size m a e (h.0 refl) h.1 in omega arith
-under-256 (fin false m e) a h t = from (m * up e) (down e) h.1 (ltb→lt (m * up e * 1) (1 * down e) t)
+under_256 nan a h t = absurd h
+under_256 (inf s) a h t = absurd h
+under_256 (fin true m e) a h t = let z : a ≡ 0 = no_size m a e (h.0 refl) h.1 in omega arith
+under_256 (fin false m e) a h t = from (m * up e) (down e) h.1 (ltb→lt (m * up e * 1) (1 * down e) t)
   where
     from : (u v : ℕ) → u * 256 ≡ a * v → u * 1 < 1 * v → a < 256
     from u v h l = let k : a * v < 256 * v = omega arith in lt_of_mul-lt-mul_right v k

@@ -27,9 +27,9 @@ less f a b c h = go (ltb a b) (ltb→lt a b)
     go false k = refl
 
 -- ---- 1 - e and 1 + e, with e = fin s n d, as sums of fractions over 1 * down d
-pub sub-one : (n : ℕ) (d : ℤ) → sub binary64 one_f (fin false n d) ≡ sum binary64 false (1 * down d) true (n * up d * 1) (1 * down d)
+pub sub_one : (n : ℕ) (d : ℤ) → sub binary64 one_f (fin false n d) ≡ sum binary64 false (1 * down d) true (n * up d * 1) (1 * down d)
 unfolding sub
-sub-one n d = refl
+sub_one n d = refl
 
 pub sub-neg : (n : ℕ) (d : ℤ) → sub binary64 one_f (fin true n d) ≡ sum binary64 false (1 * down d) false (n * up d * 1) (1 * down d)
 unfolding sub
@@ -68,7 +68,7 @@ pub sub_is : (e : Float) (D : ℕ) → Exactly e D 256 → D ≤ 256 → sub bin
 sub_is nan D h l = absurd h
 sub_is (inf s) D h l = absurd h
 sub_is (fin false n d) D h l =
-    sub-one n d
+    sub_one n d
     ∙ less binary64 (1 * down d) (n * up d * 1) (1 * down d) (under (n * up d) (down d) D h.1 l)
     ∙ round_same binary64 false (1 * down d - n * up d * 1) (1 * down d) (256 - D) 256 (mul-pos (lit< tt) (down_pos d)) (lit< tt)
     (differences (n * up d) (down d) D h.1 l)

@@ -7,11 +7,11 @@ use Rattle.gate.specs.declared.Gate.{Gate}
 use Rattle.gate.specs.declared.Band.{Band}
 use Rattle.gate.specs.declared.Verdict.{Verdict}
 
-pub one-good : (g : Gate) (r q : Bool) → r ≡ good_gate g → q ≡ good_gate g → r ≡ q
-one-good g r q h k = h ∙ sym k
+pub one_good : (g : Gate) (r q : Bool) → r ≡ good_gate g → q ≡ good_gate g → r ≡ q
+one_good g r q h k = h ∙ sym k
 
-pub one-band : (g : Gate) (w : ℕ) (b c : Band) → b ≡ band_of g w → c ≡ band_of g w → b ≡ c
-one-band g w b c h k = h ∙ sym k
+pub one_band : (g : Gate) (w : ℕ) (b c : Band) → b ≡ band_of g w → c ≡ band_of g w → b ≡ c
+one_band g w b c h k = h ∙ sym k
 
-pub one-verdict : (b : Band) (area : ℕ) (u v : Verdict) → u ≡ band_says b area → v ≡ band_says b area → u ≡ v
-one-verdict b area u v h k = h ∙ sym k
+pub one_verdict : (b : Band) (area : ℕ) (u v : Verdict) → u ≡ band_says b area → v ≡ band_says b area → u ≡ v
+one_verdict b area u v h k = h ∙ sym k

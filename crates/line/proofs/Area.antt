@@ -11,10 +11,10 @@ use Rattle.line.specs.Card.{Card, Side, Cheapest, Near, Alike, area_to, count_to
 use Rattle.line.proofs.Bools.{cond-le}
 
 module _ (area : ℕ → ℕ) (s t : Side) where
-  pub area-inside : (k : ℕ) → ((m : ℕ) → m < k → T (s m) → T (t m)) → area_to area s k ≤ area_to area t k
+  pub area_inside : (k : ℕ) → ((m : ℕ) → m < k → T (s m) → T (t m)) → area_to area s k ≤ area_to area t k
   unfolding area_to
-  area-inside zero h = omega arith
-  area-inside (suc k) h = omega (arith, cond-le (area k) (s k) (t k) (h k (omega arith)), area-inside k (λ m l. h m (omega arith)))
+  area_inside zero h = omega arith
+  area_inside (suc k) h = omega (arith, cond-le (area k) (s k) (t k) (h k (omega arith)), area_inside k (λ m l. h m (omega arith)))
 
   pub area_same : (k : ℕ) → ((m : ℕ) → m < k → 0 < area m) → ((m : ℕ) → m < k → T (s m) → T (t m)) → area_to area t k ≤ area_to area s k → Alike k s t
   unfolding area_to
@@ -28,18 +28,18 @@ module _ (area : ℕ → ℕ) (s t : Side) where
       here false false f q e = refl
 
       go : Dec (m ≡ k) → ((m : ℕ) → m < k → s m ≡ t m) → s m ≡ t m
-      go (yes q) f = rw q (here (s k) (t k) (h k (omega arith)) (p k (omega arith)) (omega (arith, area-inside k (λ m l. h m (omega arith)))))
+      go (yes q) f = rw q (here (s k) (t k) (h k (omega arith)) (p k (omega arith)) (omega (arith, area_inside k (λ m l. h m (omega arith)))))
       go (no q) f = f m (omega (arith, q))
 
 -- two sides that are the same below n have the same area there
-pub area_to-same : (area : ℕ → ℕ) (s t : Side) (n : ℕ) → Alike n s t → area_to area s n ≡ area_to area t n
+pub area_to_same : (area : ℕ → ℕ) (s t : Side) (n : ℕ) → Alike n s t → area_to area s n ≡ area_to area t n
 unfolding area_to
-area_to-same area s t zero e = refl
-area_to-same area s t (suc n) e = rw (area_to-same area s t n (λ m l. e m (omega arith)), e n (omega arith))
+area_to_same area s t zero e = refl
+area_to_same area s t (suc n) e = rw (area_to_same area s t n (λ m l. e m (omega arith)), e n (omega arith))
 
 -- at most the area of all modules
-pub area_to-most : (area : ℕ → ℕ) (s : Side) (n : ℕ) → area_to area s n ≤ area_to area (λ m. true) n
-area_to-most area s n = area-inside area s (λ m. true) n (λ m l t. tt)
+pub area_to_most : (area : ℕ → ℕ) (s : Side) (n : ℕ) → area_to area s n ≤ area_to area (λ m. true) n
+area_to_most area s n = area_inside area s (λ m. true) n (λ m l t. tt)
 
 -- a side inside another that lacks a module of it has fewer
 pub count_less : (s t : Side) (n m : ℕ) → ((i : ℕ) → T (s i) → T (t i)) → m < n → T (t m) → T (not (s m)) → count_to s n < count_to t n
@@ -53,14 +53,14 @@ count_less s t (suc n) m f l i o = go (ℕ_discrete m n) (count_less s t n m f)
     last false false t u = absurd t
 
     go : Dec (m ≡ n) → (m < n → T (t m) → T (not (s m)) → count_to s n < count_to t n) → count_to s n + cond (s n) 1 0 < count_to t n + cond (t n) 1 0
-    go (yes e) r = omega (arith, area-inside (λ m. 1) s t n (λ i _. f i), last (s n) (t n) (rw e at i) (rw e at o))
+    go (yes e) r = omega (arith, area_inside (λ m. 1) s t n (λ i _. f i), last (s n) (t n) (rw e at i) (rw e at o))
     go (no e) r = omega (arith, r (omega arith) i o, cond-le 1 (s n) (t n) (f n))
 
 -- ---- the near side is the only cheapest side of least area
 
 module _ (c : Card) (area : ℕ → ℕ) (s t : Side) (p : Near c s) (q : Cheapest c t) where
-  pub near-area : area_to area s c.modules ≤ area_to area t c.modules
-  near-area = area-inside area s t c.modules (p.inside t q)
+  pub near_area : area_to area s c.modules ≤ area_to area t c.modules
+  near_area = area_inside area s t c.modules (p.inside t q)
 
-  pub near-area-one : ((m : ℕ) → m < c.modules → 0 < area m) → area_to area t c.modules ≤ area_to area s c.modules → Alike c.modules s t
-  near-area-one some = area_same area s t c.modules some (p.inside t q)
+  pub near_area_one : ((m : ℕ) → m < c.modules → 0 < area m) → area_to area t c.modules ≤ area_to area s c.modules → Alike c.modules s t
+  near_area_one some = area_same area s t c.modules some (p.inside t q)

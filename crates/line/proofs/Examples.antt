@@ -13,8 +13,8 @@ use Rattle.line.specs.Flow.{total_sent}
 use Rattle.line.proofs.Ways.{plainly, FairBy}
 use Rattle.line.proofs.Index.{start}
 use Rattle.line.proofs.Push.{push}
-use Rattle.line.proofs.Path.{Step, Apart, AllOf, Pairwise, Leads, Ready, push_step, push_all, least, augment-fair}
-use Rattle.line.proofs.Search.{still-replicate, still-fair}
+use Rattle.line.proofs.Path.{Step, Apart, AllOf, Pairwise, Leads, Ready, push_step, push_all, least, augment_fair}
+use Rattle.line.proofs.Search.{still_replicate, still_fair}
 
 -- four modules in a row, nets of weight 2, 1 and 2 between them
 abbrev bridge : Card
@@ -33,17 +33,17 @@ path = through 0 ∷ through 1 ∷ through 2 ∷ []
 abbrev zeros : List ℤ
 zeros = replicate 6 (pos 0)
 
-path-least : least bridge zeros 65535 path ≡ 1
+path_least : least bridge zeros 65535 path ≡ 1
 unfolding least start total_sent
-path-least = refl
+path_least = refl
 
-path-pushed : push_all bridge zeros 1 path ≡ pos 1 ∷ negsuc 0 ∷ pos 1 ∷ negsuc 0 ∷ pos 1 ∷ negsuc 0 ∷ []
+path_pushed : push_all bridge zeros 1 path ≡ pos 1 ∷ negsuc 0 ∷ pos 1 ∷ negsuc 0 ∷ pos 1 ∷ negsuc 0 ∷ []
 unfolding push_all push_step push start
-path-pushed = refl
+path_pushed = refl
 
-path-ready : Ready plainly bridge zeros 1 path
+path_ready : Ready plainly bridge zeros 1 path
 unfolding AllOf Pairwise start total_sent all_pins
-path-ready = record {
+path_ready = record {
   long = lit≤ tt;
   sound = (
     record { net = lit< tt; a = lit< tt; b = lit< tt; moves = λ e. omega (arith, e); sends = λ _. tt; takes = λ _. tt },
@@ -62,7 +62,7 @@ path-ready = record {
     apart : (e k : ℕ) → e ≢ k → Apart (through e) (through k)
     apart e k n = record { left = λ q. absurd (n q); entered = λ q. absurd (n q); rooms = λ q. absurd (n q) }
 
-path-leads : FairBy plainly bridge (push_all bridge zeros (least bridge zeros 65535 path) path)
+path_leads : FairBy plainly bridge (push_all bridge zeros (least bridge zeros 65535 path) path)
 unfolding Leads
-path-leads =
-    augment-fair plainly bridge zeros 65535 path (still-fair plainly bridge zeros (still-replicate 6)) path-ready (lit≤ tt) 0 3 (inl (refl, (refl, (refl, refl)))) refl refl
+path_leads =
+    augment_fair plainly bridge zeros 65535 path (still_fair plainly bridge zeros (still_replicate 6)) path_ready (lit≤ tt) 0 3 (inl (refl, (refl, (refl, refl)))) refl refl

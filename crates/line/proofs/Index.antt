@@ -44,19 +44,19 @@ each_from P (n ∷ ns) xs h = (
 )
 
 -- the same where P knows the net's number
-pub each_by-at : (P : ℕ → Net → List ℤ → Type 0) (ns : List Net) (xs : List ℤ) → EachBy P ns xs → (e : ℕ) → e < length ns → P e (net_at ns e) (numbers ns xs e)
+pub each_by_at : (P : ℕ → Net → List ℤ → Type 0) (ns : List Net) (xs : List ℤ) → EachBy P ns xs → (e : ℕ) → e < length ns → P e (net_at ns e) (numbers ns xs e)
 unfolding EachBy start
-each_by-at P [] xs h e l = absurd (not-suc-le-zero l)
-each_by-at P (n ∷ ns) xs h zero l = h.0
-each_by-at P (n ∷ ns) xs h (suc e) l =
-    rw (← (drop-drop (start ns e) (length n.pins) xs)) (each_by-at (λ k. P (suc k)) ns (drop (length n.pins) xs) h.1 e (le_of_suc-le-suc l))
+each_by_at P [] xs h e l = absurd (not-suc-le-zero l)
+each_by_at P (n ∷ ns) xs h zero l = h.0
+each_by_at P (n ∷ ns) xs h (suc e) l =
+    rw (← (drop-drop (start ns e) (length n.pins) xs)) (each_by_at (λ k. P (suc k)) ns (drop (length n.pins) xs) h.1 e (le_of_suc-le-suc l))
 
-pub each_by-from : (P : ℕ → Net → List ℤ → Type 0) (ns : List Net) (xs : List ℤ) → ((e : ℕ) → e < length ns → P e (net_at ns e) (numbers ns xs e)) → EachBy P ns xs
+pub each_by_from : (P : ℕ → Net → List ℤ → Type 0) (ns : List Net) (xs : List ℤ) → ((e : ℕ) → e < length ns → P e (net_at ns e) (numbers ns xs e)) → EachBy P ns xs
 unfolding EachBy start
-each_by-from P [] xs h = tt
-each_by-from P (n ∷ ns) xs h = (
+each_by_from P [] xs h = tt
+each_by_from P (n ∷ ns) xs h = (
   h 0 (omega arith),
-  each_by-from (λ k. P (suc k)) ns (drop (length n.pins) xs) (λ e l. rw (drop-drop (start ns e) (length n.pins) xs) (h (suc e) (omega arith))),
+  each_by_from (λ k. P (suc k)) ns (drop (length n.pins) xs) (λ e l. rw (drop-drop (start ns e) (length n.pins) xs) (h (suc e) (omega arith))),
 )
 
 -- pin i of net e among all pins
@@ -67,11 +67,11 @@ pin_at (n ∷ ns) zero l i k = rw (zero-add i) (get_or-append n.pins (all_pins n
 pin_at (n ∷ ns) (suc e) l i k =
     rw (add_assoc (length n.pins) (start ns e) i, get_or-append-add n.pins (all_pins ns) (start ns e + i) 0) (pin_at ns e (le_of_suc-le-suc l) i k)
 
-pub start-in : (ns : List Net) (e : ℕ) → e < length ns → start ns e + length (net_at ns e).pins ≤ length (all_pins ns)
+pub start_in : (ns : List Net) (e : ℕ) → e < length ns → start ns e + length (net_at ns e).pins ≤ length (all_pins ns)
 unfolding start all_pins
-start-in [] e l = absurd (not-suc-le-zero l)
-start-in (n ∷ ns) zero l = omega (arith, length-append n.pins (all_pins ns))
-start-in (n ∷ ns) (suc e) l = omega (arith, length-append n.pins (all_pins ns), start-in ns e (le_of_suc-le-suc l))
+start_in [] e l = absurd (not-suc-le-zero l)
+start_in (n ∷ ns) zero l = omega (arith, length-append n.pins (all_pins ns))
+start_in (n ∷ ns) (suc e) l = omega (arith, length-append n.pins (all_pins ns), start_in ns e (le_of_suc-le-suc l))
 
 pub start-suc : (ns : List Net) (e : ℕ) → e < length ns → start ns (suc e) ≡ start ns e + length (net_at ns e).pins
 unfolding start
@@ -80,17 +80,17 @@ start-suc (n ∷ ns) zero l = omega arith
 start-suc (n ∷ ns) (suc e) l = omega (arith, start-suc ns e (le_of_suc-le-suc l))
 
 -- as many pins as come before the end
-pub start-all : (ns : List Net) → start ns (length ns) ≡ length (all_pins ns)
+pub start_all : (ns : List Net) → start ns (length ns) ≡ length (all_pins ns)
 unfolding start all_pins
-start-all [] = refl
-start-all (n ∷ ns) = omega (arith, start-all ns, length-append n.pins (all_pins ns))
+start_all [] = refl
+start_all (n ∷ ns) = omega (arith, start_all ns, length-append n.pins (all_pins ns))
 
-pub start-mono : (ns : List Net) (e k : ℕ) → e < k → k < length ns → start ns e + length (net_at ns e).pins ≤ start ns k
+pub start_mono : (ns : List Net) (e k : ℕ) → e < k → k < length ns → start ns e + length (net_at ns e).pins ≤ start ns k
 unfolding start
-start-mono [] e k l h = absurd (not-suc-le-zero h)
-start-mono (n ∷ ns) e zero l h = absurd (not-suc-le-zero l)
-start-mono (n ∷ ns) zero (suc k) l h = omega arith
-start-mono (n ∷ ns) (suc e) (suc k) l h = omega (arith, start-mono ns e k (le_of_suc-le-suc l) (le_of_suc-le-suc h))
+start_mono [] e k l h = absurd (not-suc-le-zero h)
+start_mono (n ∷ ns) e zero l h = absurd (not-suc-le-zero l)
+start_mono (n ∷ ns) zero (suc k) l h = omega arith
+start_mono (n ∷ ns) (suc e) (suc k) l h = omega (arith, start_mono ns e k (le_of_suc-le-suc l) (le_of_suc-le-suc h))
 
 pub price-append : (ns ms : List Net) (s : Side) → price (ns ++ ms) s ≡ price ns s + price ms s
 unfolding price

@@ -1,6 +1,6 @@
--- A path whose steps are pairwise apart can be pushed by its least room, in either order: the flow after is fair (`path-fair`), and its value is higher by what was pushed
--- (`path-value`). Apart: no pin is entered twice, none is left twice, and no two steps use the room of one net. Then a push along one step keeps the room of every other
--- (`spare-kept`). Assumes nothing.
+-- A path whose steps are pairwise apart can be pushed by its least room, in either order: the flow after is fair (`path_fair`), and its value is higher by what was pushed
+-- (`path_value`). Apart: no pin is entered twice, none is left twice, and no two steps use the room of one net. Then a push along one step keeps the room of every other
+-- (`spare_kept`). Assumes nothing.
 use mathlib.Core.Path.{◌≡◌, refl, sym, ap, ◌∙◌}
 use mathlib.Core.Logic.{◌≢◌, ◌⊎◌, inl, inr}
 use mathlib.Core.Bool.{Bool, true, false, not, cond}
@@ -14,8 +14,8 @@ use lib.Dec.{T, eqb, eqb→eq}
 use Rattle.line.specs.Card.{Net, Card, Side, all_pins}
 use Rattle.line.specs.Flow.{sent, taken, total_sent, flow_at, EachNet, NetRule, only, meters, value}
 use Rattle.line.proofs.Ways.{Ways, EachBy, NetRoles, FairBy, PassesBy}
-use Rattle.line.proofs.Index.{net_at, start, numbers, each_at, each_by-at}
-use Rattle.line.proofs.Push.{push, more-sent, less-taken, push-each, push-undo, push-rule, push-roles, numbers-same, numbers-other, push-nets, push-nets_by, full, push-flow, push-length}
+use Rattle.line.proofs.Index.{net_at, start, numbers, each_at, each_by_at}
+use Rattle.line.proofs.Push.{push, more_sent, less_taken, push_each, push_undo, push_rule, push_roles, numbers_same, numbers_other, push_nets, push_nets_by, full, push_flow, push-length}
 
 -- ---- steps
 
@@ -66,9 +66,9 @@ push_step c xs d t = push xs (start c.nets t.net + t.a) (start c.nets t.net + t.
 
 -- ---- a sound step with room for d lets d pass
 
-pub spare-passes : (w : Ways) (c : Card) (xs : List ℤ) (d : ℕ) (t : Step) → Sound w c t → Spare c xs d t →
+pub spare_passes : (w : Ways) (c : Card) (xs : List ℤ) (d : ℕ) (t : Step) → Sound w c t → Spare c xs d t →
     PassesBy (w.sends t.net) (w.takes t.net) (net_at c.nets t.net) (numbers c.nets xs t.net) t.a t.b d
-spare-passes w c xs d t p q = record { leave = one t.undo_a p.sends q.less; enter = one t.undo_b p.takes q.back; room = go t.undo_a t.undo_b q.less q.back q.room }
+spare_passes w c xs d t p q = record { leave = one t.undo_a p.sends q.less; enter = one t.undo_b p.takes q.back; room = go t.undo_a t.undo_b q.less q.back q.room }
   where
     one : {P Q : Type 0} (x : Bool) → (T (not x) → P) → (T x → Q) → P ⊎ Q
     one true f g = inr (g tt)
@@ -82,25 +82,25 @@ spare-passes w c xs d t p q = record { leave = one t.undo_a p.sends q.less; ente
 -- ---- a push along one step keeps the room of another
 
 module _ (n : Net) (ys : List ℤ) (d a b : ℕ) (x y : Bool) (la : a < length ys) (lb : b < length ys) (ne : a ≢ b) (p : NetSpare n ys d a b x y) where
-  net-kept : (a' b' : ℕ) (x' y' : Bool) → a ≢ a' → b ≢ b' → (T (not x) → T (not y) → T (not x') → T (not y') → ⊥) → NetSpare n ys d a' b' x' y' → NetSpare n (push ys a b d) d a' b' x' y'
-  net-kept a' b' x' y' na nb nr q = record {
-    less = λ t. push-each ys a b d la lb ne (λ i z. i ≡ a' → d ≤ taken z) (λ e. absurd (na e)) (λ e. keep-b e (q.less t)) a' (λ _ _ _. q.less t) refl;
-    back = λ t. push-each ys a b d la lb ne (λ i z. i ≡ b' → d ≤ sent z) (λ e. keep-a e (q.back t)) (λ e. absurd (nb e)) b' (λ _ _ _. q.back t) refl;
+  net_kept : (a' b' : ℕ) (x' y' : Bool) → a ≢ a' → b ≢ b' → (T (not x) → T (not y) → T (not x') → T (not y') → ⊥) → NetSpare n ys d a' b' x' y' → NetSpare n (push ys a b d) d a' b' x' y'
+  net_kept a' b' x' y' na nb nr q = record {
+    less = λ t. push_each ys a b d la lb ne (λ i z. i ≡ a' → d ≤ taken z) (λ e. absurd (na e)) (λ e. keep_b e (q.less t)) a' (λ _ _ _. q.less t) refl;
+    back = λ t. push_each ys a b d la lb ne (λ i z. i ≡ b' → d ≤ sent z) (λ e. keep_a e (q.back t)) (λ e. absurd (nb e)) b' (λ _ _ _. q.back t) refl;
     room = λ t u. go x y p.less p.back (λ v w. nr v w t u) (q.room t u);
   }
     where
       -- entering only lowers the number at b, and leaving only raises the one at a
-      keep-b : b ≡ a' → d ≤ taken (get_or ys a' (pos 0)) → d ≤ taken (get_or ys b (pos 0) +ℤ neg_ℤ (pos d))
-      keep-b e h = let h' : d ≤ taken (get_or ys b (pos 0)) = rw e h in omega (arith, less-taken (get_or ys b (pos 0)) d)
+      keep_b : b ≡ a' → d ≤ taken (get_or ys a' (pos 0)) → d ≤ taken (get_or ys b (pos 0) +ℤ neg_ℤ (pos d))
+      keep_b e h = let h' : d ≤ taken (get_or ys b (pos 0)) = rw e h in omega (arith, less_taken (get_or ys b (pos 0)) d)
 
-      keep-a : a ≡ b' → d ≤ sent (get_or ys b' (pos 0)) → d ≤ sent (get_or ys a (pos 0) +ℤ pos d)
-      keep-a e h = let h' : d ≤ sent (get_or ys a (pos 0)) = rw e h in omega (arith, more-sent (get_or ys a (pos 0)) d)
+      keep_a : a ≡ b' → d ≤ sent (get_or ys b' (pos 0)) → d ≤ sent (get_or ys a (pos 0) +ℤ pos d)
+      keep_a e h = let h' : d ≤ sent (get_or ys a (pos 0)) = rw e h in omega (arith, more_sent (get_or ys a (pos 0)) d)
 
       -- a step that undoes does not raise what the net's pins send
       go : (x y : Bool) → (T x → d ≤ taken (get_or ys a (pos 0))) → (T y → d ≤ sent (get_or ys b (pos 0))) → (T (not x) → T (not y) → ⊥) →
           total_sent ys + d ≤ n.weight → total_sent (push ys a b d) + d ≤ n.weight
-      go true y f g k h = omega (arith, push-undo ys a b d la lb ne (inl (f tt)))
-      go false true f g k h = omega (arith, push-undo ys a b d la lb ne (inr (g tt)))
+      go true y f g k h = omega (arith, push_undo ys a b d la lb ne (inl (f tt)))
+      go false true f g k h = omega (arith, push_undo ys a b d la lb ne (inr (g tt)))
       go false false f g k h = absurd (k tt tt)
 
 module _ (w : Ways) (c : Card) (xs : List ℤ) (d : ℕ) (long : length (all_pins c.nets) ≤ length xs) (t : Step) (ok : Sound w c t) (spare : Spare c xs d t) where
@@ -113,12 +113,12 @@ module _ (w : Ways) (c : Card) (xs : List ℤ) (d : ℕ) (long : length (all_pin
   lb : t.b < length (numbers c.nets xs t.net)
   lb = rw (full c.nets xs t.net t.a t.b d ok.net ok.a ok.b long) ok.b
 
-  pins-apart : t.a ≢ t.b
-  pins-apart e = ok.moves (ap (pin_of c t.net) e)
+  pins_apart : t.a ≢ t.b
+  pins_apart e = ok.moves (ap (pin_of c t.net) e)
 
-  pub spare-kept : (u : Step) → Sound w c u → Apart t u → Spare c xs d u → Spare c (push_step c xs d t) d u
+  pub spare_kept : (u : Step) → Sound w c u → Apart t u → Spare c xs d u → Spare c (push_step c xs d t) d u
   unfolding push_step
-  spare-kept u ok' ap' q = go (ℕ_discrete u.net t.net)
+  spare_kept u ok' ap' q = go (ℕ_discrete u.net t.net)
     where
       -- the same net
       here : (k : ℕ) → k ≡ t.net → (t.net ≡ k → t.a ≢ u.a) → (t.net ≡ k → t.b ≢ u.b) →
@@ -126,32 +126,32 @@ module _ (w : Ways) (c : Card) (xs : List ℤ) (d : ℕ) (long : length (all_pin
           NetSpare (net_at c.nets k) (numbers c.nets xs k) d u.a u.b u.undo_a u.undo_b →
           NetSpare (net_at c.nets k) (numbers c.nets (push xs (start c.nets t.net + t.a) (start c.nets t.net + t.b) d) k) d u.a u.b u.undo_a u.undo_b
       here k e f g h s =
-          rw (e, numbers-same c.nets xs t.net t.a t.b d ok.net ok.a ok.b)
-          (net-kept (net_at c.nets t.net) (numbers c.nets xs t.net) d t.a t.b t.undo_a t.undo_b la lb pins-apart spare u.a u.b u.undo_a u.undo_b
+          rw (e, numbers_same c.nets xs t.net t.a t.b d ok.net ok.a ok.b)
+          (net_kept (net_at c.nets t.net) (numbers c.nets xs t.net) d t.a t.b t.undo_a t.undo_b la lb pins_apart spare u.a u.b u.undo_a u.undo_b
           (f (sym e)) (g (sym e)) (h (sym e)) (rw e at s))
 
       go : Dec (u.net ≡ t.net) → Spare c (push xs (start c.nets t.net + t.a) (start c.nets t.net + t.b) d) d u
       go (yes e) = here u.net e ap'.left ap'.entered ap'.rooms q
-      go (no e) = rw (numbers-other c.nets xs t.net t.a t.b d ok.net ok.a ok.b u.net ok'.net e) q
+      go (no e) = rw (numbers_other c.nets xs t.net t.a t.b d ok.net ok.a ok.b u.net ok'.net e) q
 
-  pub step-rules : EachNet NetRule c.nets xs → EachNet NetRule c.nets (push_step c xs d t)
+  pub step_rules : EachNet NetRule c.nets xs → EachNet NetRule c.nets (push_step c xs d t)
   unfolding push_step
-  step-rules r =
-      push-nets c.nets xs t.net t.a t.b d ok.net ok.a ok.b NetRule r
-      (push-rule (numbers c.nets xs t.net) t.a t.b d la lb pins-apart (w.sends t.net) (w.takes t.net) (net_at c.nets t.net) (spare-passes w c xs d t ok spare)
+  step_rules r =
+      push_nets c.nets xs t.net t.a t.b d ok.net ok.a ok.b NetRule r
+      (push_rule (numbers c.nets xs t.net) t.a t.b d la lb pins_apart (w.sends t.net) (w.takes t.net) (net_at c.nets t.net) (spare_passes w c xs d t ok spare)
       (each_at NetRule c.nets xs r t.net ok.net))
 
-  pub step-roles : EachBy (λ e. NetRoles (w.sends e) (w.takes e)) c.nets xs → EachBy (λ e. NetRoles (w.sends e) (w.takes e)) c.nets (push_step c xs d t)
+  pub step_roles : EachBy (λ e. NetRoles (w.sends e) (w.takes e)) c.nets xs → EachBy (λ e. NetRoles (w.sends e) (w.takes e)) c.nets (push_step c xs d t)
   unfolding push_step
-  step-roles r =
-      push-nets_by c.nets xs t.net t.a t.b d ok.net ok.a ok.b (λ e. NetRoles (w.sends e) (w.takes e)) r
-      (push-roles (numbers c.nets xs t.net) t.a t.b d la lb pins-apart (w.sends t.net) (w.takes t.net) (net_at c.nets t.net) (spare-passes w c xs d t ok spare)
-      (each_by-at (λ e. NetRoles (w.sends e) (w.takes e)) c.nets xs r t.net ok.net))
+  step_roles r =
+      push_nets_by c.nets xs t.net t.a t.b d ok.net ok.a ok.b (λ e. NetRoles (w.sends e) (w.takes e)) r
+      (push_roles (numbers c.nets xs t.net) t.a t.b d la lb pins_apart (w.sends t.net) (w.takes t.net) (net_at c.nets t.net) (spare_passes w c xs d t ok spare)
+      (each_by_at (λ e. NetRoles (w.sends e) (w.takes e)) c.nets xs r t.net ok.net))
 
-  pub step-flow : (s : Side) → flow_at s (all_pins c.nets) (push_step c xs d t)
+  pub step_flow : (s : Side) → flow_at s (all_pins c.nets) (push_step c xs d t)
       ≡ (flow_at s (all_pins c.nets) xs +ℤ cond (s (tail c t)) (pos d) (pos 0)) +ℤ cond (s (head c t)) (neg_ℤ (pos d)) (pos 0)
   unfolding push_step
-  step-flow s = push-flow c.nets xs t.net t.a t.b d ok.net ok.a ok.b long s
+  step_flow s = push_flow c.nets xs t.net t.a t.b d ok.net ok.a ok.b long s
 
   pub step-length : length (push_step c xs d t) ≡ length xs
   unfolding push_step
@@ -193,9 +193,9 @@ drift : Card → Side → ℕ → List Step → ℤ
 drift c s d [] = pos 0
 drift c s d (t ∷ ts) = (give s d (tail c t) +ℤ get s d (head c t)) +ℤ drift c s d ts
 
-give-get : (s : Side) (d m : ℕ) → give s d m +ℤ get s d m ≡ pos 0
+give_get : (s : Side) (d m : ℕ) → give s d m +ℤ get s d m ≡ pos 0
 unfolding give get
-give-get s d m = go (s m)
+give_get s d m = go (s m)
   where
     go : (b : Bool) → cond b (pos d) (pos 0) +ℤ cond b (neg_ℤ (pos d)) (pos 0) ≡ pos 0
     go true = +ℤ_invr (pos d)
@@ -208,19 +208,19 @@ join p n p' n' e =
     ∙ ap (λ (z : ℤ). p +ℤ z) (sym (+ℤ_assoc n p' n') ∙ ap (λ (z : ℤ). z +ℤ n') (+ℤ_comm n p' ∙ e) ∙ +ℤ_idl n')
 
 module _ (c : Card) (s : Side) (d : ℕ) where
-  leads-drift : (h : ℕ) (ts : List Step) (u : ℕ) → Leads c h ts u → drift c s d ts ≡ give s d h +ℤ get s d u
+  leads_drift : (h : ℕ) (ts : List Step) (u : ℕ) → Leads c h ts u → drift c s d ts ≡ give s d h +ℤ get s d u
   unfolding drift Leads
-  leads-drift h [] u e = rw e (sym (give-get s d u))
-  leads-drift h (t ∷ ts) u l =
-      rw (leads-drift (head c t) ts u l.1, ← l.0) (join (give s d (tail c t)) (get s d (head c t)) (give s d (head c t)) (get s d u) (give-get s d (head c t)))
+  leads_drift h [] u e = rw e (sym (give_get s d u))
+  leads_drift h (t ∷ ts) u l =
+      rw (leads_drift (head c t) ts u l.1, ← l.0) (join (give s d (tail c t)) (get s d (head c t)) (give s d (head c t)) (get s d u) (give_get s d (head c t)))
 
-  back-drift : (h : ℕ) (ts : List Step) (u : ℕ) → LeadsBack c h ts u → drift c s d ts ≡ give s d h +ℤ get s d u
+  back_drift : (h : ℕ) (ts : List Step) (u : ℕ) → LeadsBack c h ts u → drift c s d ts ≡ give s d h +ℤ get s d u
   unfolding drift LeadsBack
-  back-drift h [] u e = rw e (sym (give-get s d u))
-  back-drift h (t ∷ ts) u l =
-      rw (back-drift h ts (tail c t) l.1, ← l.0)
+  back_drift h [] u e = rw e (sym (give_get s d u))
+  back_drift h (t ∷ ts) u l =
+      rw (back_drift h ts (tail c t) l.1, ← l.0)
       (+ℤ_comm (give s d (tail c t) +ℤ get s d (head c t)) (give s d h +ℤ get s d (tail c t))
-      ∙ join (give s d h) (get s d (tail c t)) (give s d (tail c t)) (get s d (head c t)) (give-get s d (tail c t)))
+      ∙ join (give s d h) (get s d (tail c t)) (give s d (tail c t)) (get s d (head c t)) (give_get s d (tail c t)))
 
 -- ---- the whole path
 
@@ -231,55 +231,55 @@ pub record Ready (w : Ways) (c : Card) (xs : List ℤ) (d : ℕ) (ts : List Step
   pub apart : Pairwise ts
 
 module _ (w : Ways) (c : Card) (d : ℕ) where
-  all-kept : (xs : List ℤ) → length (all_pins c.nets) ≤ length xs → (t : Step) → Sound w c t → Spare c xs d t →
+  all_kept : (xs : List ℤ) → length (all_pins c.nets) ≤ length xs → (t : Step) → Sound w c t → Spare c xs d t →
       (ts : List Step) → AllOf (Sound w c) ts → AllOf (Apart t) ts → AllOf (Spare c xs d) ts → AllOf (Spare c (push_step c xs d t) d) ts
   unfolding AllOf
-  all-kept xs long t ok sp [] p q r = tt
-  all-kept xs long t ok sp (u ∷ ts) p q r = (spare-kept w c xs d long t ok sp u p.0 q.0 r.0, all-kept xs long t ok sp ts p.1 q.1 r.1)
+  all_kept xs long t ok sp [] p q r = tt
+  all_kept xs long t ok sp (u ∷ ts) p q r = (spare_kept w c xs d long t ok sp u p.0 q.0 r.0, all_kept xs long t ok sp ts p.1 q.1 r.1)
 
   -- after one step the others are ready
-  pub ready-step : (xs : List ℤ) (t : Step) (ts : List Step) → Ready w c xs d (t ∷ ts) → Ready w c (push_step c xs d t) d ts
+  pub ready_step : (xs : List ℤ) (t : Step) (ts : List Step) → Ready w c xs d (t ∷ ts) → Ready w c (push_step c xs d t) d ts
   unfolding AllOf Pairwise
-  ready-step xs t ts r = record {
+  ready_step xs t ts r = record {
     long = rw (step-length w c xs d r.long t r.sound.0 r.spare.0) r.long;
     sound = r.sound.1;
-    spare = all-kept xs r.long t r.sound.0 r.spare.0 ts r.sound.1 r.apart.0 r.spare.1;
+    spare = all_kept xs r.long t r.sound.0 r.spare.0 ts r.sound.1 r.apart.0 r.spare.1;
     apart = r.apart.1;
   }
 
   pub path-length : (ts : List Step) (xs : List ℤ) → Ready w c xs d ts → length (push_all c xs d ts) ≡ length xs
   unfolding push_all AllOf
   path-length [] xs r = refl
-  path-length (t ∷ ts) xs r = path-length ts (push_step c xs d t) (ready-step xs t ts r) ∙ step-length w c xs d r.long t r.sound.0 r.spare.0
+  path-length (t ∷ ts) xs r = path-length ts (push_step c xs d t) (ready_step xs t ts r) ∙ step-length w c xs d r.long t r.sound.0 r.spare.0
 
-  pub path-rules : (ts : List Step) (xs : List ℤ) → Ready w c xs d ts → EachNet NetRule c.nets xs → EachNet NetRule c.nets (push_all c xs d ts)
+  pub path_rules : (ts : List Step) (xs : List ℤ) → Ready w c xs d ts → EachNet NetRule c.nets xs → EachNet NetRule c.nets (push_all c xs d ts)
   unfolding push_all AllOf
-  path-rules [] xs r f = f
-  path-rules (t ∷ ts) xs r f = path-rules ts (push_step c xs d t) (ready-step xs t ts r) (step-rules w c xs d r.long t r.sound.0 r.spare.0 f)
+  path_rules [] xs r f = f
+  path_rules (t ∷ ts) xs r f = path_rules ts (push_step c xs d t) (ready_step xs t ts r) (step_rules w c xs d r.long t r.sound.0 r.spare.0 f)
 
-  pub path-roles : (ts : List Step) (xs : List ℤ) → Ready w c xs d ts →
+  pub path_roles : (ts : List Step) (xs : List ℤ) → Ready w c xs d ts →
       EachBy (λ e. NetRoles (w.sends e) (w.takes e)) c.nets xs → EachBy (λ e. NetRoles (w.sends e) (w.takes e)) c.nets (push_all c xs d ts)
   unfolding push_all AllOf
-  path-roles [] xs r f = f
-  path-roles (t ∷ ts) xs r f = path-roles ts (push_step c xs d t) (ready-step xs t ts r) (step-roles w c xs d r.long t r.sound.0 r.spare.0 f)
+  path_roles [] xs r f = f
+  path_roles (t ∷ ts) xs r f = path_roles ts (push_step c xs d t) (ready_step xs t ts r) (step_roles w c xs d r.long t r.sound.0 r.spare.0 f)
 
-  path-flow : (ts : List Step) (xs : List ℤ) → Ready w c xs d ts → (s : Side) → flow_at s (all_pins c.nets) (push_all c xs d ts) ≡ flow_at s (all_pins c.nets) xs +ℤ drift c s d ts
+  path_flow : (ts : List Step) (xs : List ℤ) → Ready w c xs d ts → (s : Side) → flow_at s (all_pins c.nets) (push_all c xs d ts) ≡ flow_at s (all_pins c.nets) xs +ℤ drift c s d ts
   unfolding push_all AllOf drift give get
-  path-flow [] xs r s = sym (+ℤ_idr (flow_at s (all_pins c.nets) xs))
-  path-flow (t ∷ ts) xs r s =
-      path-flow ts (push_step c xs d t) (ready-step xs t ts r) s
+  path_flow [] xs r s = sym (+ℤ_idr (flow_at s (all_pins c.nets) xs))
+  path_flow (t ∷ ts) xs r s =
+      path_flow ts (push_step c xs d t) (ready_step xs t ts r) s
       ∙ ap (λ (z : ℤ). z +ℤ drift c s d ts)
-      (step-flow w c xs d r.long t r.sound.0 r.spare.0 s ∙ +ℤ_assoc (flow_at s (all_pins c.nets) xs) (cond (s (tail c t)) (pos d) (pos 0)) (cond (s (head c t)) (neg_ℤ (pos d)) (pos 0)))
+      (step_flow w c xs d r.long t r.sound.0 r.spare.0 s ∙ +ℤ_assoc (flow_at s (all_pins c.nets) xs) (cond (s (tail c t)) (pos d) (pos 0)) (cond (s (head c t)) (neg_ℤ (pos d)) (pos 0)))
       ∙ +ℤ_assoc (flow_at s (all_pins c.nets) xs) (cond (s (tail c t)) (pos d) (pos 0) +ℤ cond (s (head c t)) (neg_ℤ (pos d)) (pos 0)) (drift c s d ts)
 
   -- a path from h to u, in either order of its steps
   module _ (xs : List ℤ) (ts : List Step) (r : Ready w c xs d ts) (h u : ℕ) (l : Leads c h ts u ⊎ LeadsBack c h ts u) where
     ends : (s : Side) → flow_at s (all_pins c.nets) (push_all c xs d ts) ≡ flow_at s (all_pins c.nets) xs +ℤ (give s d h +ℤ get s d u)
-    ends s = path-flow ts xs r s ∙ ap (λ (z : ℤ). flow_at s (all_pins c.nets) xs +ℤ z) (go l)
+    ends s = path_flow ts xs r s ∙ ap (λ (z : ℤ). flow_at s (all_pins c.nets) xs +ℤ z) (go l)
       where
         go : Leads c h ts u ⊎ LeadsBack c h ts u → drift c s d ts ≡ give s d h +ℤ get s d u
-        go (inl k) = leads-drift c s d h ts u k
-        go (inr k) = back-drift c s d h ts u k
+        go (inl k) = leads_drift c s d h ts u k
+        go (inr k) = back_drift c s d h ts u k
 
     eqb_no : (m n : ℕ) → m ≢ n → eqb m n ≡ false
     eqb_no m n f = go (eqb m n) (eqb→eq m n)
@@ -289,20 +289,20 @@ module _ (w : Ways) (c : Card) (d : ℕ) where
         go false e = refl
 
     -- from a marked module to a marked one, a fair flow stays fair
-    pub path-fair : c.mark h ≢ 0 → c.mark u ≢ 0 → FairBy w c xs → FairBy w c (push_all c xs d ts)
+    pub path_fair : c.mark h ≢ 0 → c.mark u ≢ 0 → FairBy w c xs → FairBy w c (push_all c xs d ts)
     unfolding give get
-    path-fair nh nu f = record {
+    path_fair nh nu f = record {
       fair = record {
-        nets = path-rules ts xs r f.fair.nets;
+        nets = path_rules ts xs r f.fair.nets;
         modules = λ m lt z. ends (only m) ∙ rw (f.fair.modules m lt z, eqb_no h m (λ e. nh (rw e z)), eqb_no u m (λ e. nu (rw e z)));
       };
-      roles = path-roles ts xs r f.roles;
+      roles = path_roles ts xs r f.roles;
     }
 
     -- from a meter to another kind of module, the value is d higher
-    pub path-value : c.mark h ≡ 1 → c.mark u ≢ 1 → value c (push_all c xs d ts) ≡ value c xs +ℤ pos d
+    pub path_value : c.mark h ≡ 1 → c.mark u ≢ 1 → value c (push_all c xs d ts) ≡ value c xs +ℤ pos d
     unfolding value give get
-    path-value eh nu = ends (meters c) ∙ rw (eh, eqb_no (c.mark u) 1 nu) (ap (λ (z : ℤ). flow_at (meters c) (all_pins c.nets) xs +ℤ z) (+ℤ_idr (pos d)))
+    path_value eh nu = ends (meters c) ∙ rw (eh, eqb_no (c.mark u) 1 nu) (ap (λ (z : ℤ). flow_at (meters c) (all_pins c.nets) xs +ℤ z) (+ℤ_idr (pos d)))
 
 -- ---- the least room of a path
 
@@ -331,8 +331,8 @@ module _ (c : Card) (xs : List ℤ) where
       go false true h = record { less = λ u. absurd u; back = λ _. h; room = λ _ u. absurd u }
       go false false h = record { less = λ u. absurd u; back = λ u. absurd u; room = λ _ _. omega arith }
 
-  pub of-spare : (d : ℕ) (t : Step) → Spare c xs d t → d ≤ spare_of c xs t
-  of-spare d t p =
+  pub of_spare : (d : ℕ) (t : Step) → Spare c xs d t → d ≤ spare_of c xs t
+  of_spare d t p =
       let ys = numbers c.nets xs t.net in
       go (taken (get_or ys t.a (pos 0))) (sent (get_or ys t.b (pos 0))) (net_at c.nets t.net).weight (total_sent ys) t.undo_a t.undo_b p.less p.back p.room
     where
@@ -342,16 +342,16 @@ module _ (c : Card) (xs : List ℤ) where
       go A B W N false true f g h = g tt
       go A B W N false false f g h = omega (arith, h tt tt)
 
-  pub least-spare : (w : Ways) (top d : ℕ) (ts : List Step) → EachNet NetRule c.nets xs → AllOf (Sound w c) ts → d ≤ least c xs top ts → AllOf (Spare c xs d) ts
+  pub least_spare : (w : Ways) (top d : ℕ) (ts : List Step) → EachNet NetRule c.nets xs → AllOf (Sound w c) ts → d ≤ least c xs top ts → AllOf (Spare c xs d) ts
   unfolding least AllOf
-  least-spare w top d [] r ok h = tt
-  least-spare w top d (t ∷ ts) r ok h =
-      (spare-of d t (each_at NetRule c.nets xs r t.net ok.0.net).fits (omega arith), least-spare w top d ts r ok.1 (omega arith))
+  least_spare w top d [] r ok h = tt
+  least_spare w top d (t ∷ ts) r ok h =
+      (spare-of d t (each_at NetRule c.nets xs r t.net ok.0.net).fits (omega arith), least_spare w top d ts r ok.1 (omega arith))
 
   pub least_above : (top d : ℕ) (ts : List Step) → d ≤ top → AllOf (Spare c xs d) ts → d ≤ least c xs top ts
   unfolding least AllOf
   least_above top d [] h p = h
-  least_above top d (t ∷ ts) h p = omega (arith, of-spare d t p.0, least_above top d ts h p.1)
+  least_above top d (t ∷ ts) h p = omega (arith, of_spare d t p.0, least_above top d ts h p.1)
 
 -- ---- a path from a meter to a maker through which something can pass: pushed by its least room, it gives a fair flow of a higher value
 
@@ -360,8 +360,8 @@ module _ (w : Ways) (c : Card) (xs : List ℤ) (top : ℕ) (ts : List Step) (f :
   abbrev most : ℕ
   most = least c xs top ts
 
-  pub augment-ready : Ready w c xs most ts
-  augment-ready = record { long = r.long; sound = r.sound; spare = least-spare c xs w top most ts f.fair.nets r.sound (omega arith); apart = r.apart }
+  pub augment_ready : Ready w c xs most ts
+  augment_ready = record { long = r.long; sound = r.sound; spare = least_spare c xs w top most ts f.fair.nets r.sound (omega arith); apart = r.apart }
 
-  pub augment-fair : FairBy w c (push_all c xs most ts)
-  augment-fair = path-fair w c most xs ts augment-ready h u l (λ e. absurd (omega (arith, e, meter))) (λ e. absurd (omega (arith, e, maker))) f
+  pub augment_fair : FairBy w c (push_all c xs most ts)
+  augment_fair = path_fair w c most xs ts augment_ready h u l (λ e. absurd (omega (arith, e, meter))) (λ e. absurd (omega (arith, e, maker))) f

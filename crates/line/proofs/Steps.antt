@@ -25,8 +25,8 @@ abbrev pub Closed : Card → Side → List ℤ → Type 0
 Closed c s xs = EachNet (NetKeeps s) c.nets xs
 
 module _ (n : Net) (ys : List ℤ) (a b : ℕ) where
-  pub passes-plain : PassesBy (λ i. true) (λ i. true) n ys a b 1 → Passes n ys a b
-  passes-plain p = go p.room
+  pub passes_plain : PassesBy (λ i. true) (λ i. true) n ys a b 1 → Passes n ys a b
+  passes_plain p = go p.room
     where
       go : (1 ≤ taken (get_or ys a (pos 0))) ⊎ ((1 ≤ sent (get_or ys b (pos 0))) ⊎ (total_sent ys + 1 ≤ n.weight)) → Passes n ys a b
       go (inl h) = inl h

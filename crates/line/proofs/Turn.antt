@@ -1,5 +1,5 @@
 -- On the turned card steps go the other way: meters and makers change places there, senders and takers change places, and every number changes its sign. So ONE
--- search forwards gives the near side (`reached-near`) and, on the turned card, what lies outside the far side (`reached-far`). Assumes nothing.
+-- search forwards gives the near side (`reached_near`) and, on the turned card, what lies outside the far side (`reached_far`). Assumes nothing.
 use mathlib.Core.Path.{◌≡◌, refl, sym, ap, ◌∙◌}
 use mathlib.Core.Logic.{◌⊎◌, inl, inr}
 use mathlib.Core.Bool.{Bool, true, false, not, cond, ◌&&◌, not-not, and_comm}
@@ -12,12 +12,12 @@ use lib.Dec.{T, lit≤}
 use Rattle.line.specs.Card.{Net, Card, Side, outside, all_pins, Separates, Inside, Near, Far}
 use Rattle.line.specs.Flow.{sent, taken, total, total_sent, flow_at, EachNet, NetRule, Fair, only}
 use Rattle.line.proofs.Ways.{Ways, plainly, later, meets, crosses_by, cost_by, price_by, CheapestBy, NearBy, FarBy, NetRoles, FairBy, PassesBy, NetKeepsBy, ClosedBy}
-use Rattle.line.proofs.WayPrice.{meets-same}
-use Rattle.line.proofs.Sums.{is_zero, sum_at, sum, flow-diff, total-diff, sum-sent}
-use Rattle.line.proofs.Index.{net_at, start, numbers, each_at, each_from, each_by-at, each_by-from}
-use Rattle.line.proofs.WayFlow.{Valid, closed-near}
-use Rattle.line.proofs.Cheap.{near-plain, far-plain}
-use Rattle.line.proofs.Duality.{fair-plain}
+use Rattle.line.proofs.WayPrice.{meets_same}
+use Rattle.line.proofs.Sums.{is_zero, sum_at, sum, flow_diff, total_diff, sum_sent}
+use Rattle.line.proofs.Index.{net_at, start, numbers, each_at, each_from, each_by_at, each_by_from}
+use Rattle.line.proofs.WayFlow.{Valid, closed_near}
+use Rattle.line.proofs.Cheap.{near_plain, far_plain}
+use Rattle.line.proofs.Duality.{fair_plain}
 use Rattle.line.proofs.Bools.{flip}
 
 -- ---- definitions
@@ -45,24 +45,24 @@ pub record Reached (w : Ways) (c : Card) (xs : List ℤ) (s : Side) : Type 0 whe
 
 -- ---- numbers turned
 
-pub neg-sent : (z : ℤ) → sent (neg_ℤ z) ≡ taken z
-neg-sent (pos zero) = refl
-neg-sent (pos (suc n)) = refl
-neg-sent (negsuc n) = refl
+pub neg_sent : (z : ℤ) → sent (neg_ℤ z) ≡ taken z
+neg_sent (pos zero) = refl
+neg_sent (pos (suc n)) = refl
+neg_sent (negsuc n) = refl
 
-pub neg-taken : (z : ℤ) → taken (neg_ℤ z) ≡ sent z
-neg-taken (pos zero) = refl
-neg-taken (pos (suc n)) = refl
-neg-taken (negsuc n) = refl
+pub neg_taken : (z : ℤ) → taken (neg_ℤ z) ≡ sent z
+neg_taken (pos zero) = refl
+neg_taken (pos (suc n)) = refl
+neg_taken (negsuc n) = refl
 
 pub get_or-negs : (xs : List ℤ) (i : ℕ) → get_or (negs xs) i (pos 0) ≡ neg_ℤ (get_or xs i (pos 0))
 get_or-negs xs i = get_or-map neg_ℤ xs i (pos 0)
 
 pub sent-negs : (xs : List ℤ) (i : ℕ) → sent (get_or (negs xs) i (pos 0)) ≡ taken (get_or xs i (pos 0))
-sent-negs xs i = ap sent (get_or-negs xs i) ∙ neg-sent (get_or xs i (pos 0))
+sent-negs xs i = ap sent (get_or-negs xs i) ∙ neg_sent (get_or xs i (pos 0))
 
 pub taken-negs : (xs : List ℤ) (i : ℕ) → taken (get_or (negs xs) i (pos 0)) ≡ sent (get_or xs i (pos 0))
-taken-negs xs i = ap taken (get_or-negs xs i) ∙ neg-taken (get_or xs i (pos 0))
+taken-negs xs i = ap taken (get_or-negs xs i) ∙ neg_taken (get_or xs i (pos 0))
 
 take-negs : (k : ℕ) (xs : List ℤ) → take k (negs xs) ≡ negs (take k xs)
 take-negs zero xs = refl
@@ -90,15 +90,15 @@ sum_at-negs f g h s (p ∷ ps) (x ∷ xs) = rw (h x, sum_at-negs f g h s ps xs)
 
 pub total-negs : (xs : List ℤ) → total xs ≡ pos 0 → total (negs xs) ≡ pos 0
 total-negs xs z =
-    is_zero (total (negs xs)) (omega (arith, total-diff xs, total-diff (negs xs), sum-negs sent taken neg-sent xs, sum-negs taken sent neg-taken xs, ap sent z, ap taken z))
+    is_zero (total (negs xs)) (omega (arith, total_diff xs, total_diff (negs xs), sum-negs sent taken neg_sent xs, sum-negs taken sent neg_taken xs, ap sent z, ap taken z))
 
 -- a net whose numbers add to 0 sends what it takes
 pub total_sent-negs : (xs : List ℤ) → total xs ≡ pos 0 → total_sent (negs xs) ≡ total_sent xs
-total_sent-negs xs z = omega (arith, total-diff xs, sum-negs sent taken neg-sent xs, sum-sent xs, sum-sent (negs xs), ap sent z, ap taken z)
+total_sent-negs xs z = omega (arith, total_diff xs, sum-negs sent taken neg_sent xs, sum_sent xs, sum_sent (negs xs), ap sent z, ap taken z)
 
-flow-negs : (s : Side) (ps : List ℕ) (xs : List ℤ) → flow_at s ps xs ≡ pos 0 → flow_at s ps (negs xs) ≡ pos 0
-flow-negs s ps xs z =
-    is_zero (flow_at s ps (negs xs)) (omega (arith, flow-diff s ps xs, flow-diff s ps (negs xs), sum_at-negs sent taken neg-sent s ps xs, sum_at-negs taken sent neg-taken s ps xs, ap sent z, ap taken z))
+flow_negs : (s : Side) (ps : List ℕ) (xs : List ℤ) → flow_at s ps xs ≡ pos 0 → flow_at s ps (negs xs) ≡ pos 0
+flow_negs s ps xs z =
+    is_zero (flow_at s ps (negs xs)) (omega (arith, flow_diff s ps xs, flow_diff s ps (negs xs), sum_at-negs sent taken neg_sent s ps xs, sum_at-negs taken sent neg_taken s ps xs, ap sent z, ap taken z))
 
 -- ---- steps turned
 
@@ -107,48 +107,48 @@ swap (inl h) = inr (inl h)
 swap (inr (inl h)) = inl h
 swap (inr (inr h)) = inr (inr h)
 
-pub turn-passes : (r q : ℕ → Bool) (n : Net) (ys : List ℤ) (a b d : ℕ) → total ys ≡ pos 0 → PassesBy q r n (negs ys) b a d → PassesBy r q n ys a b d
-turn-passes r q n ys a b d z p = record { leave = rw (sent-negs ys a) at p.enter; enter = rw (taken-negs ys b) at p.leave; room = swap (rw (taken-negs ys b, sent-negs ys a, total_sent-negs ys z) at p.room) }
+pub turn_passes : (r q : ℕ → Bool) (n : Net) (ys : List ℤ) (a b d : ℕ) → total ys ≡ pos 0 → PassesBy q r n (negs ys) b a d → PassesBy r q n ys a b d
+turn_passes r q n ys a b d z p = record { leave = rw (sent-negs ys a) at p.enter; enter = rw (taken-negs ys b) at p.leave; room = swap (rw (taken-negs ys b, sent-negs ys a, total_sent-negs ys z) at p.room) }
 
 -- ---- cards and flows turned
 
-mark-0 : (k : ℕ) → turn_mark k ≡ 0 → k ≡ 0
-mark-0 zero e = refl
-mark-0 (suc zero) e = absurd (omega arith)
-mark-0 (suc (suc zero)) e = absurd (omega arith)
-mark-0 (suc (suc (suc k))) e = absurd (omega arith)
+mark_0 : (k : ℕ) → turn_mark k ≡ 0 → k ≡ 0
+mark_0 zero e = refl
+mark_0 (suc zero) e = absurd (omega arith)
+mark_0 (suc (suc zero)) e = absurd (omega arith)
+mark_0 (suc (suc (suc k))) e = absurd (omega arith)
 
-pub mark-1 : (k : ℕ) → turn_mark k ≡ 1 → k ≡ 2
-mark-1 zero e = absurd (omega arith)
-mark-1 (suc zero) e = absurd (omega arith)
-mark-1 (suc (suc zero)) e = refl
-mark-1 (suc (suc (suc k))) e = absurd (omega arith)
+pub mark_1 : (k : ℕ) → turn_mark k ≡ 1 → k ≡ 2
+mark_1 zero e = absurd (omega arith)
+mark_1 (suc zero) e = absurd (omega arith)
+mark_1 (suc (suc zero)) e = refl
+mark_1 (suc (suc (suc k))) e = absurd (omega arith)
 
-mark-2 : (k : ℕ) → turn_mark k ≡ 2 → k ≡ 1
-mark-2 zero e = absurd (omega arith)
-mark-2 (suc zero) e = refl
-mark-2 (suc (suc zero)) e = absurd (omega arith)
-mark-2 (suc (suc (suc k))) e = absurd (omega arith)
+mark_2 : (k : ℕ) → turn_mark k ≡ 2 → k ≡ 1
+mark_2 zero e = absurd (omega arith)
+mark_2 (suc zero) e = refl
+mark_2 (suc (suc zero)) e = absurd (omega arith)
+mark_2 (suc (suc (suc k))) e = absurd (omega arith)
 
-mark-top : (k : ℕ) → k ≤ 2 → turn_mark k ≤ 2
-mark-top zero l = lit≤ tt
-mark-top (suc zero) l = lit≤ tt
-mark-top (suc (suc zero)) l = lit≤ tt
-mark-top (suc (suc (suc k))) l = l
+mark_top : (k : ℕ) → k ≤ 2 → turn_mark k ≤ 2
+mark_top zero l = lit≤ tt
+mark_top (suc zero) l = lit≤ tt
+mark_top (suc (suc zero)) l = lit≤ tt
+mark_top (suc (suc (suc k))) l = l
 
-pub valid-turn : (c : Card) → Valid c → Valid (turn c)
-valid-turn c v = record { pins = v.pins; marks = λ m l. mark-top (c.mark m) (v.marks m l) }
+pub valid_turn : (c : Card) → Valid c → Valid (turn c)
+valid_turn c v = record { pins = v.pins; marks = λ m l. mark_top (c.mark m) (v.marks m l) }
 
 module _ (w : Ways) (c : Card) (xs : List ℤ) where
-  pub fair-turn : FairBy w c xs → FairBy (turn_ways w) (turn c) (negs xs)
-  fair-turn f = record {
+  pub fair_turn : FairBy w c xs → FairBy (turn_ways w) (turn c) (negs xs)
+  fair_turn f = record {
     fair = record {
       nets = each_from NetRule c.nets (negs xs) (λ e l. rw (numbers-negs c.nets xs e) (rule (net_at c.nets e) (numbers c.nets xs e) (each_at NetRule c.nets xs f.fair.nets e l)));
-      modules = λ m l z. flow-negs (only m) (all_pins c.nets) xs (f.fair.modules m l (mark-0 (c.mark m) z));
+      modules = λ m l z. flow_negs (only m) (all_pins c.nets) xs (f.fair.modules m l (mark_0 (c.mark m) z));
     };
     roles =
-        each_by-from (λ e. NetRoles (w.takes e) (w.sends e)) c.nets (negs xs)
-        (λ e l. rw (numbers-negs c.nets xs e) (role (w.sends e) (w.takes e) (net_at c.nets e) (numbers c.nets xs e) (each_by-at (λ e. NetRoles (w.sends e) (w.takes e)) c.nets xs f.roles e l)));
+        each_by_from (λ e. NetRoles (w.takes e) (w.sends e)) c.nets (negs xs)
+        (λ e l. rw (numbers-negs c.nets xs e) (role (w.sends e) (w.takes e) (net_at c.nets e) (numbers c.nets xs e) (each_by_at (λ e. NetRoles (w.sends e) (w.takes e)) c.nets xs f.roles e l)));
   }
     where
       rule : (n : Net) (ys : List ℤ) → NetRule n ys → NetRule n (negs ys)
@@ -158,12 +158,12 @@ module _ (w : Ways) (c : Card) (xs : List ℤ) where
       role r q n ys k = record { sends = λ i h. k.takes i (rw (sent-negs ys i) at h); takes = λ i h. k.sends i (rw (taken-negs ys i) at h) }
 
   -- a step that would leave the outside of s on the turned card would leave s on this one
-  pub closed-turn : (s : Side) → EachNet NetRule c.nets xs → ClosedBy w c s xs → ClosedBy (turn_ways w) (turn c) (outside s) (negs xs)
-  closed-turn s rules k =
-      each_by-from (λ e. NetKeepsBy (w.takes e) (w.sends e) (outside s)) c.nets (negs xs)
+  pub closed_turn : (s : Side) → EachNet NetRule c.nets xs → ClosedBy w c s xs → ClosedBy (turn_ways w) (turn c) (outside s) (negs xs)
+  closed_turn s rules k =
+      each_by_from (λ e. NetKeepsBy (w.takes e) (w.sends e) (outside s)) c.nets (negs xs)
       (λ e l. rw (numbers-negs c.nets xs e)
       (net (w.sends e) (w.takes e) (net_at c.nets e) (numbers c.nets xs e) (each_at NetRule c.nets xs rules e l).zero
-      (each_by-at (λ e. NetKeepsBy (w.sends e) (w.takes e) s) c.nets xs k e l)))
+      (each_by_at (λ e. NetKeepsBy (w.sends e) (w.takes e) s) c.nets xs k e l)))
     where
       contra : (p q : Bool) → (T p → T q) → T (not q) → T (not p)
       contra true true f t = t
@@ -171,79 +171,79 @@ module _ (w : Ways) (c : Card) (xs : List ℤ) where
       contra false q f t = tt
 
       net : (r q : ℕ → Bool) (n : Net) (ys : List ℤ) → total ys ≡ pos 0 → NetKeepsBy r q s n ys → NetKeepsBy q r (outside s) n (negs ys)
-      net r q n ys z k b a lb la t p = contra (s (get_or n.pins a 0)) (s (get_or n.pins b 0)) (λ h. k a b la lb h (turn-passes r q n ys a b 1 z p)) t
+      net r q n ys z k b a lb la t p = contra (s (get_or n.pins a 0)) (s (get_or n.pins b 0)) (λ h. k a b la lb h (turn_passes r q n ys a b 1 z p)) t
 
 -- ---- prices turned
 
-T-nn : (b : Bool) → T b → T (not (not b))
-T-nn true t = t
-T-nn false t = t
+T_nn : (b : Bool) → T b → T (not (not b))
+T_nn true t = t
+T_nn false t = t
 
-pub cost-turn : (r q : ℕ → Bool) (s : Side) (n : Net) → cost_by q r (outside s) n ≡ cost_by r q s n
+pub cost_turn : (r q : ℕ → Bool) (s : Side) (n : Net) → cost_by q r (outside s) n ≡ cost_by r q s n
 unfolding cost_by crosses_by
-cost-turn r q s n =
+cost_turn r q s n =
     ap (λ (b : Bool). cond b n.weight 0)
-    (ap (λ (b : Bool). meets q (outside s) n.pins && b) (meets-same r (outside (outside s)) s n.pins (λ m _. not-not (s m))) ∙ and_comm (meets q (outside s) n.pins) (meets r s n.pins))
+    (ap (λ (b : Bool). meets q (outside s) n.pins && b) (meets_same r (outside (outside s)) s n.pins (λ m _. not-not (s m))) ∙ and_comm (meets q (outside s) n.pins) (meets r s n.pins))
 
-pub price-turn : (w : Ways) (ns : List Net) (s : Side) → price_by (turn_ways w) ns (outside s) ≡ price_by w ns s
+pub price_turn : (w : Ways) (ns : List Net) (s : Side) → price_by (turn_ways w) ns (outside s) ≡ price_by w ns s
 unfolding price_by
-price-turn w [] s = refl
-price-turn w (n ∷ ns) s = rw (cost-turn (w.sends 0) (w.takes 0) s n, price-turn (later w) ns s)
+price_turn w [] s = refl
+price_turn w (n ∷ ns) s = rw (cost_turn (w.sends 0) (w.takes 0) s n, price_turn (later w) ns s)
 
-pub price-turn' : (w : Ways) (ns : List Net) (s : Side) → price_by (turn_ways w) ns s ≡ price_by w ns (outside s)
-price-turn' w ns s = sym (price-turn (turn_ways w) ns s)
+pub price_turn' : (w : Ways) (ns : List Net) (s : Side) → price_by (turn_ways w) ns s ≡ price_by w ns (outside s)
+price_turn' w ns s = sym (price_turn (turn_ways w) ns s)
 
 module _ (c : Card) where
-  pub separates-turn : (s : Side) → Separates c s → Separates (turn c) (outside s)
-  separates-turn s p = record { meters = λ m l e. p.makers m l (mark-1 (c.mark m) e); makers = λ m l e. T-nn (s m) (p.meters m l (mark-2 (c.mark m) e)) }
+  pub separates_turn : (s : Side) → Separates c s → Separates (turn c) (outside s)
+  separates_turn s p = record { meters = λ m l e. p.makers m l (mark_1 (c.mark m) e); makers = λ m l e. T_nn (s m) (p.meters m l (mark_2 (c.mark m) e)) }
 
-  pub turn-separates : (s : Side) → Separates (turn c) s → Separates c (outside s)
-  turn-separates s p = record { meters = λ m l e. p.makers m l (ap turn_mark e); makers = λ m l e. T-nn (s m) (p.meters m l (ap turn_mark e)) }
+  pub turn_separates : (s : Side) → Separates (turn c) s → Separates c (outside s)
+  turn_separates s p = record { meters = λ m l e. p.makers m l (ap turn_mark e); makers = λ m l e. T_nn (s m) (p.meters m l (ap turn_mark e)) }
 
 module _ (w : Ways) (c : Card) where
-  cheapest-turn : (s : Side) → CheapestBy w c s → CheapestBy (turn_ways w) (turn c) (outside s)
-  cheapest-turn s p = record {
-    separates = separates-turn c s p.separates;
-    least = λ t q. omega (arith, price-turn w c.nets s, price-turn' w c.nets t, p.least (outside t) (turn-separates c t q));
+  cheapest_turn : (s : Side) → CheapestBy w c s → CheapestBy (turn_ways w) (turn c) (outside s)
+  cheapest_turn s p = record {
+    separates = separates_turn c s p.separates;
+    least = λ t q. omega (arith, price_turn w c.nets s, price_turn' w c.nets t, p.least (outside t) (turn_separates c t q));
   }
 
-  turn-cheapest : (s : Side) → CheapestBy (turn_ways w) (turn c) s → CheapestBy w c (outside s)
-  turn-cheapest s p = record {
-    separates = turn-separates c s p.separates;
-    least = λ t q. omega (arith, price-turn' w c.nets s, price-turn w c.nets t, p.least (outside t) (separates-turn c t q));
+  turn_cheapest : (s : Side) → CheapestBy (turn_ways w) (turn c) s → CheapestBy w c (outside s)
+  turn_cheapest s p = record {
+    separates = turn_separates c s p.separates;
+    least = λ t q. omega (arith, price_turn' w c.nets s, price_turn w c.nets t, p.least (outside t) (separates_turn c t q));
   }
 
   -- what lies outside the near side of the turned card is the far side
   pub turn_near : (s : Side) → NearBy (turn_ways w) (turn c) s → FarBy w c (outside s)
   turn_near s p = record {
-    cheapest = turn-cheapest s p.cheapest;
-    holds = λ t q m l h. flip (s m) (t m) (p.inside (outside t) (cheapest-turn t q) m l) h;
+    cheapest = turn_cheapest s p.cheapest;
+    holds = λ t q m l h. flip (s m) (t m) (p.inside (outside t) (cheapest_turn t q) m l) h;
   }
 
 -- ---- what a search gives
 
 module _ (w : Ways) (c : Card) (valid : Valid c) (xs : List ℤ) (f : FairBy w c xs) where
   -- forwards: if it meets no maker, it is the near side
-  pub reached-near : (s : Side) → Reached w c xs s → ((m : ℕ) → m < c.modules → c.mark m ≡ 2 → T (not (s m))) → NearBy w c s
-  reached-near s r no-maker = closed-near w c valid xs f s (record { meters = r.meters; makers = no-maker }) r.closed r.inside
+  pub reached_near : (s : Side) → Reached w c xs s → ((m : ℕ) → m < c.modules → c.mark m ≡ 2 → T (not (s m))) → NearBy w c s
+  reached_near s r no_maker = closed_near w c valid xs f s (record { meters = r.meters; makers = no_maker }) r.closed r.inside
 
   module _ (s : Side) (p : Separates c s) (k : ClosedBy w c s xs) (t : Side) (back : Reached (turn_ways w) (turn c) (negs xs) t) where
     -- backwards, once some side that separates is closed, it meets no meter
-    pub reached-apart : (m : ℕ) → m < c.modules → T (t m) → T (not (s m))
-    reached-apart = back.inside (outside s) (λ m l e. p.makers m l (mark-1 (c.mark m) e)) (closed-turn w c xs s f.fair.nets k)
+    pub reached_apart : (m : ℕ) → m < c.modules → T (t m) → T (not (s m))
+    reached_apart = back.inside (outside s) (λ m l e. p.makers m l (mark_1 (c.mark m) e)) (closed_turn w c xs s f.fair.nets k)
 
     -- and what it does not reach is the far side
-    pub reached-far : FarBy w c (outside t)
-    reached-far =
+    pub reached_far : FarBy w c (outside t)
+    reached_far =
         turn_near w c t
-        (closed-near (turn_ways w) (turn c) (valid-turn c valid) (negs xs) (fair-turn w c xs f) t
-        (record { meters = back.meters; makers = λ m l e. flip (t m) (s m) (reached-apart m l) (p.meters m l (mark-2 (c.mark m) e)) }) back.closed back.inside)
+        (closed_near (turn_ways w) (turn c) (valid_turn c valid) (negs xs) (fair_turn w c xs f) t
+        (record { meters = back.meters; makers = λ m l e. flip (t m) (s m) (reached_apart m l) (p.meters m l (mark_2 (c.mark m) e)) }) back.closed back.inside)
 
 -- the same in the page's words
 
-module _ (c : Card) (valid : Valid c) (xs : List ℤ) (fair : Fair c xs) (s : Side) (r : Reached plainly c xs s) (no-maker : (m : ℕ) → m < c.modules → c.mark m ≡ 2 → T (not (s m))) where
-  pub search-near : Near c s
-  search-near = near-plain c s (reached-near plainly c valid xs (fair-plain c xs fair) s r no-maker)
+module _ (c : Card) (valid : Valid c) (xs : List ℤ) (fair : Fair c xs) (s : Side) (r : Reached plainly c xs s) (no_maker : (m : ℕ) → m < c.modules → c.mark m ≡ 2 → T (not (s m))) where
+  pub search_near : Near c s
+  search_near = near_plain c s (reached_near plainly c valid xs (fair_plain c xs fair) s r no_maker)
 
-  pub search-far : (t : Side) → Reached plainly (turn c) (negs xs) t → Far c (outside t)
-  search-far t back = far-plain c (outside t) (reached-far plainly c valid xs (fair-plain c xs fair) s (record { meters = r.meters; makers = no-maker }) r.closed t back)
+  pub search_far : (t : Side) → Reached plainly (turn c) (negs xs) t → Far c (outside t)
+  search_far t back = far_plain c (outside t) (reached_far plainly c valid xs (fair_plain c xs fair) s (record { meters = r.meters; makers = no_maker }) r.closed t back)

@@ -10,7 +10,7 @@ use lib.Bits.{bit_and, bit_or, and_shr, or_shr, and_mod, or_mod, and_lt, or_lt}
 use lib.Dec.{eqb}
 use lib.ListN.{length, get_or}
 use Rattle.line.specs.Card.{Side, both, either, Separates, Alike, price}
-use Rattle.line.proofs.Bools.{and-mk, or_l, not-and-l, not-or-mk}
+use Rattle.line.proofs.Bools.{and_mk, or_l, not_and_l, not_or_mk}
 use Rattle.line.proofs.Price.{submodular}
 use Rattle.book.specs.Format.{modules}
 use Rattle.book.specs.Sound.{Sound}
@@ -20,9 +20,9 @@ use Rattle.side.specs.declared.Priced.TheVariants.{Price}
 use Rattle.side.specs.Sides.{bit_at, side_of, bytes_for, Bytes, SpareClear, bytewise, and_of, or_of}
 use Rattle.side.specs.Given.{Fits}
 use Rattle.side.specs.Prices.{priced}
-use Rattle.side.proofs.Alike.{alike-price, alike-separates}
-use Rattle.side.proofs.Bits.{bit-lt, of-bit}
-use Rattle.side.proofs.Prices.{price-tells, price-answers}
+use Rattle.side.proofs.Alike.{alike_price, alike_separates}
+use Rattle.side.proofs.Bits.{bit-lt, of_bit}
+use Rattle.side.proofs.Prices.{price_tells, price_answers}
 
 -- ---- a row of bytes, byte by byte
 
@@ -75,17 +75,17 @@ module _ (f : ℕ → ℕ → ℕ) (t : Bool → Bool → Bool)
   fits s l k p q parts = record {
     enough = long f l k (bytes_for (modules s)) p.enough q.enough;
     separates =
-        alike-separates s (λ m. t (side_of l m) (side_of k m)) (side_of (bytewise f l k)) (joins (modules s) l k p.enough q.enough) parts;
+        alike_separates s (λ m. t (side_of l m) (side_of k m)) (side_of (bytewise f l k)) (joins (modules s) l k p.enough q.enough) parts;
     spare = spare (modules s) l k p.enough q.enough p.spare q.spare;
   }
 
 -- ---- the two
 
-and-tests : (a b : ℕ) → a < 2 → b < 2 → eqb (bit_and a b) 1 ≡ (eqb a 1 && eqb b 1)
-and-tests a b h g = of-bit (λ a. eqb (bit_and a b) 1 ≡ (eqb a 1 && eqb b 1)) (of-bit (λ b. eqb (bit_and 0 b) 1 ≡ false) refl refl b g) (of-bit (λ b. eqb (bit_and 1 b) 1 ≡ eqb b 1) refl refl b g) a h
+and_tests : (a b : ℕ) → a < 2 → b < 2 → eqb (bit_and a b) 1 ≡ (eqb a 1 && eqb b 1)
+and_tests a b h g = of_bit (λ a. eqb (bit_and a b) 1 ≡ (eqb a 1 && eqb b 1)) (of_bit (λ b. eqb (bit_and 0 b) 1 ≡ false) refl refl b g) (of_bit (λ b. eqb (bit_and 1 b) 1 ≡ eqb b 1) refl refl b g) a h
 
-or-tests : (a b : ℕ) → a < 2 → b < 2 → eqb (bit_or a b) 1 ≡ (eqb a 1 || eqb b 1)
-or-tests a b h g = of-bit (λ a. eqb (bit_or a b) 1 ≡ (eqb a 1 || eqb b 1)) (of-bit (λ b. eqb (bit_or 0 b) 1 ≡ eqb b 1) refl refl b g) (of-bit (λ b. eqb (bit_or 1 b) 1 ≡ true) refl refl b g) a h
+or_tests : (a b : ℕ) → a < 2 → b < 2 → eqb (bit_or a b) 1 ≡ (eqb a 1 || eqb b 1)
+or_tests a b h g = of_bit (λ a. eqb (bit_or a b) 1 ≡ (eqb a 1 || eqb b 1)) (of_bit (λ b. eqb (bit_or 0 b) 1 ≡ eqb b 1) refl refl b g) (of_bit (λ b. eqb (bit_or 1 b) 1 ≡ true) refl refl b g) a h
 
 module _ (s l k : List ℕ) (p : Fits s l) (q : Fits s k) where
   abbrev x : Side
@@ -94,47 +94,47 @@ module _ (s l k : List ℕ) (p : Fits s l) (q : Fits s k) where
   abbrev y : Side
   y = side_of k
 
-  is-both : Alike (modules s) (both x y) (side_of (and_of l k))
-  is-both = joins bit_and (λ a b. a && b) and_shr and_mod and-tests refl (modules s) l k p.enough q.enough
+  is_both : Alike (modules s) (both x y) (side_of (and_of l k))
+  is_both = joins bit_and (λ a b. a && b) and_shr and_mod and_tests refl (modules s) l k p.enough q.enough
 
-  is-either : Alike (modules s) (either x y) (side_of (or_of l k))
-  is-either = joins bit_or (λ a b. a || b) or_shr or_mod or-tests refl (modules s) l k p.enough q.enough
+  is_either : Alike (modules s) (either x y) (side_of (or_of l k))
+  is_either = joins bit_or (λ a b. a || b) or_shr or_mod or_tests refl (modules s) l k p.enough q.enough
 
   -- both separate again, and their spare bits are clear again
-  pub and-fits : Fits s (and_of l k)
-  and-fits = fits bit_and (λ a b. a && b) and_shr and_mod and-tests refl s l k p q (record {
-    meters = λ m i e. and-mk (x m) (y m) (p.separates.meters m i e) (q.separates.meters m i e);
-    makers = λ m i e. not-and-l (x m) (y m) (p.separates.makers m i e);
+  pub and_fits : Fits s (and_of l k)
+  and_fits = fits bit_and (λ a b. a && b) and_shr and_mod and_tests refl s l k p q (record {
+    meters = λ m i e. and_mk (x m) (y m) (p.separates.meters m i e) (q.separates.meters m i e);
+    makers = λ m i e. not_and_l (x m) (y m) (p.separates.makers m i e);
   })
 
-  pub or-fits : Fits s (or_of l k)
-  or-fits = fits bit_or (λ a b. a || b) or_shr or_mod or-tests refl s l k p q (record {
+  pub or_fits : Fits s (or_of l k)
+  or_fits = fits bit_or (λ a b. a || b) or_shr or_mod or_tests refl s l k p q (record {
     meters = λ m i e. or_l (x m) (y m) (p.separates.meters m i e);
-    makers = λ m i e. not-or-mk (x m) (y m) (p.separates.makers m i e) (q.separates.makers m i e);
+    makers = λ m i e. not_or_mk (x m) (y m) (p.separates.makers m i e) (q.separates.makers m i e);
   })
 
   -- what is on both and what is on either together cost no more than the two sides
-  pub bytes-submodular : Sound s → price (nets_of s) (side_of (and_of l k)) + price (nets_of s) (side_of (or_of l k)) ≤ price (nets_of s) (side_of l) + price (nets_of s) (side_of k)
-  bytes-submodular h =
-      omega (arith, submodular (nets_of s) x y, alike-price s (both x y) (side_of (and_of l k)) is-both h, alike-price s (either x y) (side_of (or_of l k)) is-either h)
+  pub bytes_submodular : Sound s → price (nets_of s) (side_of (and_of l k)) + price (nets_of s) (side_of (or_of l k)) ≤ price (nets_of s) (side_of l) + price (nets_of s) (side_of k)
+  bytes_submodular h =
+      omega (arith, submodular (nets_of s) x y, alike_price s (both x y) (side_of (and_of l k)) is_both h, alike_price s (either x y) (side_of (or_of l k)) is_either h)
 
 -- the same of the call's answers
 pub record Joined (s l k : List ℕ) (p q : ℕ) : Type 0 where
   pub inner : ℕ
   pub outer : ℕ
-  pub inner-is : priced s (and_of l k) ≡ Price inner
-  pub outer-is : priced s (or_of l k) ≡ Price outer
+  pub inner_is : priced s (and_of l k) ≡ Price inner
+  pub outer_is : priced s (or_of l k) ≡ Price outer
   pub no_more : inner + outer ≤ p + q
 
-pub price-submodular : (s l k : List ℕ) (p q : ℕ) → Bytes l → Bytes k → priced s l ≡ Price p → priced s k ≡ Price q → Joined s l k p q
-price-submodular s l k p q f g e h =
-    let a = price-tells s l p e in
-    let b = price-tells s k q h in
+pub price_submodular : (s l k : List ℕ) (p q : ℕ) → Bytes l → Bytes k → priced s l ≡ Price p → priced s k ≡ Price q → Joined s l k p q
+price_submodular s l k p q f g e h =
+    let a = price_tells s l p e in
+    let b = price_tells s k q h in
     let r = a.reads in
     record {
       inner = price (nets_of s) (side_of (and_of l k));
       outer = price (nets_of s) (side_of (or_of l k));
-      inner-is = price-answers s (and_of l k) (bytes bit_and (and_lt 8) l k f g) r (and-fits s l k a.fits b.fits);
-      outer-is = price-answers s (or_of l k) (bytes bit_or (or_lt 8) l k f g) r (or-fits s l k a.fits b.fits);
-      no_more = omega (arith, a.is, b.is, bytes-submodular s l k a.fits b.fits (sound s r.0 r.1));
+      inner_is = price_answers s (and_of l k) (bytes bit_and (and_lt 8) l k f g) r (and_fits s l k a.fits b.fits);
+      outer_is = price_answers s (or_of l k) (bytes bit_or (or_lt 8) l k f g) r (or_fits s l k a.fits b.fits);
+      no_more = omega (arith, a.is, b.is, bytes_submodular s l k a.fits b.fits (sound s r.0 r.1));
     }

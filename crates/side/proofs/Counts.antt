@@ -13,7 +13,7 @@ use mathlib.Core.Bool.{cond}
 use lib.Dec.{eqb}
 use Rattle.line.specs.Card.{area_to, count_to}
 use Rattle.side.specs.Sides.{bit_in, side_of, ClearFrom}
-use Rattle.side.proofs.Bits.{bit-lt, of-bit}
+use Rattle.side.proofs.Bits.{bit-lt, of_bit}
 
 -- how many of the bits below m of a row of words of w bits are 1
 unfoldable pub count_in : ℕ → List ℕ → ℕ → ℕ
@@ -23,11 +23,11 @@ count_in w l (suc m) = bit_in w l m + count_in w l m
 -- ---- a digit counts itself
 ones_bit : (r : ℕ) → r < 2 → ones r ≡ r
 unfolding ones
-ones_bit = of-bit (λ r. ones r ≡ r) refl refl
+ones_bit = of_bit (λ r. ones r ≡ r) refl refl
 
 -- the ones among a number's j + 1 lowest digits: its digit j, and those among its j lowest
-next-digit : (x j : ℕ) → ones (x % 2 ^ suc j) ≡ x / 2 ^ j % 2 + ones (x % 2 ^ j)
-next-digit x j =
+next_digit : (x j : ℕ) → ones (x % 2 ^ suc j) ≡ x / 2 ^ j % 2 + ones (x % 2 ^ j)
+next_digit x j =
     ap (λ (k : ℕ). ones (x % 2 ^ k)) (sym (add-one j) ∙ add_comm j 1)
     ∙ ap ones (mod-pow-add x 1 j)
     ∙ ones_cat j (x / 2 ^ j % 2) (x % 2 ^ j) (mod-lt x (pow_pos j))
@@ -35,8 +35,8 @@ next-digit x j =
 
 -- ---- a word of w bits at a time
 module _ (w : ℕ) (l : List ℕ) where
-  bit-in-word : (k j : ℕ) → j < w → bit_in w l (k * w + j) ≡ get_or l k 0 / 2 ^ j % 2
-  bit-in-word k j h = ap₂ (λ (a b : ℕ). get_or l a 0 / 2 ^ b % 2) (digits_div k h) (digits_mod k h)
+  bit_in_word : (k j : ℕ) → j < w → bit_in w l (k * w + j) ≡ get_or l k 0 / 2 ^ j % 2
+  bit_in_word k j h = ap₂ (λ (a b : ℕ). get_or l a 0 / 2 ^ b % 2) (digits_div k h) (digits_mod k h)
 
   upto : (k j : ℕ) → j ≤ w → count_in w l (k * w + j) ≡ ones (get_or l k 0 % 2 ^ j) + count_in w l (k * w)
   unfolding count_in
@@ -47,9 +47,9 @@ module _ (w : ℕ) (l : List ℕ) where
   upto k (suc j) h =
       let x = get_or l k 0 in
       ap (count_in w l) (add-suc (k * w) j)
-      ∙ ap₂ (λ (a b : ℕ). a + b) (bit-in-word k j h) (upto k j (le_of_lt h))
+      ∙ ap₂ (λ (a b : ℕ). a + b) (bit_in_word k j h) (upto k j (le_of_lt h))
       ∙ sym (add_assoc (x / 2 ^ j % 2) (ones (x % 2 ^ j)) (count_in w l (k * w)))
-      ∙ ap (λ (a : ℕ). a + count_in w l (k * w)) (sym (next-digit x j))
+      ∙ ap (λ (a : ℕ). a + count_in w l (k * w)) (sym (next_digit x j))
 
   pub next_word : (k : ℕ) → get_or l k 0 < 2 ^ w → count_in w l ((k + 1) * w) ≡ count_in w l (k * w) + ones (get_or l k 0)
   next_word k h =
@@ -83,8 +83,8 @@ module _ (w : ℕ) (l : List ℕ) where
       under : (m d c : ℕ) → m + suc d ≤ c → m + d < c
       under m d c h = omega arith
 
-  pub spare-adds-nothing : (m n : ℕ) → ClearFrom w l m n → m ≤ n * w → count_in w l (n * w) ≡ count_in w l m
-  spare-adds-nothing m n s h = ap (count_in w l) (whole m (n * w) h) ∙ grown m n (n * w - m) s (fits m (n * w) h)
+  pub spare_adds_nothing : (m n : ℕ) → ClearFrom w l m n → m ≤ n * w → count_in w l (n * w) ≡ count_in w l m
+  spare_adds_nothing m n s h = ap (count_in w l) (whole m (n * w) h) ∙ grown m n (n * w - m) s (fits m (n * w) h)
     where
       whole : (m c : ℕ) → m ≤ c → c ≡ m + (c - m)
       whole m c h = omega arith
@@ -93,10 +93,10 @@ module _ (w : ℕ) (l : List ℕ) where
       fits m c h = omega arith
 
 -- ---- the set bits of bytes are the modules on the side
-bit-counts : (b : ℕ) → b < 2 → cond (eqb b 1) 1 0 ≡ b
-bit-counts = of-bit (λ b. cond (eqb b 1) 1 0 ≡ b) refl refl
+bit_counts : (b : ℕ) → b < 2 → cond (eqb b 1) 1 0 ≡ b
+bit_counts = of_bit (λ b. cond (eqb b 1) 1 0 ≡ b) refl refl
 
 pub bits_inside : (l : List ℕ) (m : ℕ) → count_in 8 l m ≡ count_to (side_of l) m
 unfolding count_in area_to
 bits_inside l zero = refl
-bits_inside l (suc m) = omega (arith, bits_inside l m, bit-counts (bit_in 8 l m) (bit-lt (get_or l (m / 8) 0 / 2 ^ (m % 8))))
+bits_inside l (suc m) = omega (arith, bits_inside l m, bit_counts (bit_in 8 l m) (bit-lt (get_or l (m / 8) 0 / 2 ^ (m % 8))))

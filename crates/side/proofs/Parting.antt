@@ -7,7 +7,7 @@ use lib.Dec.{T, eqb, eqb→eq}
 use Rattle.book.specs.declared.Found.{Found}
 use Rattle.book.specs.declared.Found.TheVariants.{At, Nothing}
 use Rattle.book.specs.First.{lowest, is_nothing}
-use Rattle.book.proofs.Firsts.{lowest-none, none-lowest}
+use Rattle.book.proofs.Firsts.{lowest_none, none_lowest}
 use Rattle.line.specs.Card.{Side, Separates}
 use Rattle.book.specs.Format.{modules, mark}
 use Rattle.book.specs.Cards.{card_of}
@@ -18,24 +18,24 @@ module _ (s : List ℕ) (x : Side) where
   nothing (At i) e = absurd (false≢true e)
   nothing Nothing e = refl
 
-  pub test-separates : separates s x ≡ true → Separates (card_of s) x
+  pub test_separates : separates s x ≡ true → Separates (card_of s) x
   unfolding separates misplaced
-  test-separates e = record {
-    meters = λ m l k. in-side (mark s m) (x m) k (lowest-none (misplaced s x) (modules s) (nothing (lowest (misplaced s x) (modules s)) e) m l);
-    makers = λ m l k. off-side (mark s m) (x m) k (lowest-none (misplaced s x) (modules s) (nothing (lowest (misplaced s x) (modules s)) e) m l);
+  test_separates e = record {
+    meters = λ m l k. in_side (mark s m) (x m) k (lowest_none (misplaced s x) (modules s) (nothing (lowest (misplaced s x) (modules s)) e) m l);
+    makers = λ m l k. off_side (mark s m) (x m) k (lowest_none (misplaced s x) (modules s) (nothing (lowest (misplaced s x) (modules s)) e) m l);
   }
     where
-      in-side : (k : ℕ) (b : Bool) → k ≡ 1 → T (not ((eqb k 1 && not b) || (eqb k 2 && b))) → T b
-      in-side k true e t = tt
-      in-side k false e t = rw e at t
+      in_side : (k : ℕ) (b : Bool) → k ≡ 1 → T (not ((eqb k 1 && not b) || (eqb k 2 && b))) → T b
+      in_side k true e t = tt
+      in_side k false e t = rw e at t
 
-      off-side : (k : ℕ) (b : Bool) → k ≡ 2 → T (not ((eqb k 1 && not b) || (eqb k 2 && b))) → T (not b)
-      off-side k true e t = rw e at t
-      off-side k false e t = tt
+      off_side : (k : ℕ) (b : Bool) → k ≡ 2 → T (not ((eqb k 1 && not b) || (eqb k 2 && b))) → T (not b)
+      off_side k true e t = rw e at t
+      off_side k false e t = tt
 
-  pub separates-test : Separates (card_of s) x → separates s x ≡ true
+  pub separates_test : Separates (card_of s) x → separates s x ≡ true
   unfolding separates misplaced
-  separates-test p = ap is_nothing (none-lowest (misplaced s x) (modules s) (λ m l. placed (mark s m) (x m) (p.meters m l) (p.makers m l)))
+  separates_test p = ap is_nothing (none_lowest (misplaced s x) (modules s) (λ m l. placed (mark s m) (x m) (p.meters m l) (p.makers m l)))
     where
       here : (a b c : Bool) → (T a → T c) → (T b → T (not c)) → T (not ((a && not c) || (b && c)))
       here true true true f g = g tt

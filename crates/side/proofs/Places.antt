@@ -4,11 +4,11 @@ use mathlib.Core.List.{List}
 use native.Mathlib.Omega.{arith}
 use Rattle.book.specs.Format.{nets, pins, pin_count, first_pin}
 use Rattle.book.specs.Sound.{Sound}
-use Rattle.book.proofs.CardLaws.{pin-before, first_pin-suc, first_pin-mono}
+use Rattle.book.proofs.CardLaws.{pin_before, first_pin-suc, first_pin_mono}
 
 module _ (s : List ℕ) (h : Sound s) (n : ℕ) (l : n < nets s) where
-  pub pin-within : (j : ℕ) → j < pin_count s n → first_pin s n + j < pins s
-  pin-within j k = omega (arith, h.pins-all, pin-before s n (nets s) j l k)
+  pub pin_within : (j : ℕ) → j < pin_count s n → first_pin s n + j < pins s
+  pin_within j k = omega (arith, h.pins_all, pin_before s n (nets s) j l k)
 
-  pub next-within : first_pin s n + pin_count s n ≤ pins s
-  next-within = let k : n + 1 ≤ nets s = omega arith in omega (arith, h.pins-all, first_pin-suc s n, first_pin-mono s (n + 1) (nets s) k)
+  pub next_within : first_pin s n + pin_count s n ≤ pins s
+  next_within = let k : n + 1 ≤ nets s = omega arith in omega (arith, h.pins_all, first_pin-suc s n, first_pin_mono s (n + 1) (nets s) k)

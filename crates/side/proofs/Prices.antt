@@ -14,20 +14,20 @@ use Rattle.book.specs.Checks.{read_of}
 use Rattle.book.specs.Cards.{nets_of}
 use Rattle.book.proofs.Sound.{sound}
 use Rattle.side.specs.declared.Given.{Given}
-use Rattle.side.specs.declared.Given.TheVariants as goal
+use Rattle.side.specs.declared.Given.TheVariants as given
 use Rattle.side.specs.declared.Priced.{Priced}
 use Rattle.side.specs.declared.Priced.TheVariants.{Price, Refused}
 use Rattle.side.specs.Sides.{side_of, bytes_for, Bytes}
 use Rattle.side.specs.Given.{Fits, Reads, Refuses}
 use Rattle.side.specs.Given as page
 use Rattle.side.specs.Prices.{price_after, priced}
-use Rattle.side.proofs.Refusals.{given-tells, given-passes, given-refuses, refuses-given}
-use Rattle.side.proofs.Unread.{one_side, one-given}
-use Rattle.side.proofs.Alike.{alike-price}
+use Rattle.side.proofs.Refusals.{given_tells, given_passes, given_refuses, refuses_given}
+use Rattle.side.proofs.Unread.{one_side, one_given}
+use Rattle.side.proofs.Alike.{alike_price}
 
 -- any two answers that `price`'s contract allows are one
-pub price-one : (s l : List ℕ) (r q : Priced) → r ≡ priced s l → q ≡ priced s l → r ≡ q
-price-one s l r q h k = h ∙ sym k
+pub price_one : (s l : List ℕ) (r q : Priced) → r ≡ priced s l → q ≡ priced s l → r ≡ q
+price_one s l r q h k = h ∙ sym k
 
 module _ (s l : List ℕ) where
   pub record Answered (p : ℕ) : Type 0 where
@@ -36,40 +36,40 @@ module _ (s l : List ℕ) where
     pub is : p ≡ price (nets_of s) (side_of l)
 
   answer : (p : ℕ) (g : Given) → page.given s l ≡ g → price_after g (price (nets_of s) (side_of l)) ≡ Price p → Answered p
-  answer p goal.Good e h =
-      let t = given-tells s l e in
+  answer p given.Good e h =
+      let t = given_tells s l e in
       let q : price (nets_of s) (side_of l) ≡ p = cc in
       record { reads = t.0; fits = t.1; is = sym q }
-  answer p (goal.Refused why) e h = let z : ◌≡◌ {A = ℕ} 0 1 = cc in absurd (omega arith)
+  answer p (given.Refused why) e h = let z : ◌≡◌ {A = ℕ} 0 1 = cc in absurd (omega arith)
 
-  pub price-tells : (p : ℕ) → priced s l ≡ Price p → Answered p
+  pub price_tells : (p : ℕ) → priced s l ≡ Price p → Answered p
   unfolding priced
-  price-tells p e = answer p (page.given s l) refl e
+  price_tells p e = answer p (page.given s l) refl e
 
-  refused : (why : Refusal) (g : Given) (p : ℕ) → price_after g p ≡ Refused why → g ≡ goal.Refused why
-  refused why goal.Good p h = let z : ◌≡◌ {A = ℕ} 0 1 = cc in absurd (omega arith)
-  refused why (goal.Refused w) p h = let u : w ≡ why = cc in ap goal.Refused u
+  refused : (why : Refusal) (g : Given) (p : ℕ) → price_after g p ≡ Refused why → g ≡ given.Refused why
+  refused why given.Good p h = let z : ◌≡◌ {A = ℕ} 0 1 = cc in absurd (omega arith)
+  refused why (given.Refused w) p h = let u : w ≡ why = cc in ap given.Refused u
 
   module _ (h : Bytes l) where
-    pub price-answers : Reads s → Fits s l → priced s l ≡ Price (price (nets_of s) (side_of l))
+    pub price_answers : Reads s → Fits s l → priced s l ≡ Price (price (nets_of s) (side_of l))
     unfolding priced
-    price-answers r f = rw (given-passes s l h r f)
+    price_answers r f = rw (given_passes s l h r f)
 
-    pub price-refuses : (why : Refusal) → priced s l ≡ Refused why → Refuses s l why
+    pub price_refuses : (why : Refusal) → priced s l ≡ Refused why → Refuses s l why
     unfolding priced
-    price-refuses why e = given-refuses s l h why (refused why (page.given s l) (price (nets_of s) (side_of l)) e)
+    price_refuses why e = given_refuses s l h why (refused why (page.given s l) (price (nets_of s) (side_of l)) e)
 
-    pub refuses-price : {why : Refusal} → Refuses s l why → priced s l ≡ Refused why
+    pub refuses_price : {why : Refusal} → Refuses s l why → priced s l ≡ Refused why
     unfolding priced
-    refuses-price r = rw (refuses-given s l h r)
+    refuses_price r = rw (refuses_given s l h r)
 
 -- two sides that agree on the needed bytes get one answer
-pub price-unread : (s l k : List ℕ) → take (bytes_for (modules s)) l ≡ take (bytes_for (modules s)) k → priced s l ≡ priced s k
+pub price_unread : (s l k : List ℕ) → take (bytes_for (modules s)) l ≡ take (bytes_for (modules s)) k → priced s l ≡ priced s k
 unfolding priced page.given
-price-unread s l k e = go (read_of s) refl
+price_unread s l k e = go (read_of s) refl
   where
     go : (r : Reading) → read_of s ≡ r →
         price_after (page.after_read (read_of s) (page.given_sound s l)) (price (nets_of s) (side_of l)) ≡
         price_after (page.after_read (read_of s) (page.given_sound s k)) (price (nets_of s) (side_of k))
-    go (reading.Good b) h = ap₂ price_after (one-given s l k e) (alike-price s (side_of l) (side_of k) (one_side s l k e) (sound s b h))
+    go (reading.Good b) h = ap₂ price_after (one_given s l k e) (alike_price s (side_of l) (side_of k) (one_side s l k e) (sound s b h))
     go (reading.Refused why) h = rw h

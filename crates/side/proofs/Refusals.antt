@@ -7,7 +7,7 @@ use native.Mathlib.Omega.{arith}
 use lib.Dec.{T}
 use lib.ListN.{length}
 use borrow.Author.Tests.{ltb-true, ltb-false, lt-ltb, le-ltb, not-false}
-use Rattle.line.proofs.Bools.{T_true, and_l, and_r, and-mk}
+use Rattle.line.proofs.Bools.{T_true, and_l, and_r, and_mk}
 use Rattle.book.specs.declared.Reading.{Reading}
 use Rattle.book.specs.declared.Reading.TheVariants as reading
 use Rattle.book.specs.declared.Refusal.{Refusal}
@@ -22,8 +22,8 @@ use Rattle.side.specs.declared.Given.{Given}
 use Rattle.side.specs.declared.Given.TheVariants.{Good, Refused}
 use Rattle.side.specs.Sides.{side_of, bytes_for, Bytes, spare_test}
 use Rattle.side.specs.Given.{Lent, Fits, Reads, Refuses, reader, short, misfit, separates, is_short, is_good, refuse_if, given_sound, after_read, given}
-use Rattle.side.proofs.Parting.{test-separates, separates-test}
-use Rattle.side.proofs.Spares.{test-tells, test-passes}
+use Rattle.side.proofs.Parting.{test_separates, separates_test}
+use Rattle.side.proofs.Spares.{test_tells, test_passes}
 
 -- no refusal
 passed : (b : Bool) (why : Refusal) (rest : Given) → refuse_if b why rest ≡ Good → (b ≡ false) × (rest ≡ Good)
@@ -33,21 +33,21 @@ passed false why rest e = (refl, e)
 module _ (s l : List ℕ) where
   -- ---- checks 8 and 9 as tests, and what they test
 
-  fits-of : is_short s l ≡ false → is_good s l ≡ true → Fits s l
+  fits_of : is_short s l ≡ false → is_good s l ≡ true → Fits s l
   unfolding is_short is_good
-  fits-of a g =
+  fits_of a g =
       let t : T (is_good s l) = rw g tt in
       record {
         enough = ltb-false _ _ a;
-        separates = test-separates s (side_of l) (T_true _ (and_l (separates s (side_of l)) (spare_test l (modules s)) t));
-        spare = test-tells l (modules s) (and_r (separates s (side_of l)) (spare_test l (modules s)) t);
+        separates = test_separates s (side_of l) (T_true _ (and_l (separates s (side_of l)) (spare_test l (modules s)) t));
+        spare = test_tells l (modules s) (and_r (separates s (side_of l)) (spare_test l (modules s)) t);
       }
 
-  fits-good : Bytes l → Fits s l → is_good s l ≡ true
+  fits_good : Bytes l → Fits s l → is_good s l ≡ true
   unfolding is_good
-  fits-good h f =
-      let a : T (separates s (side_of l)) = rw (separates-test s (side_of l) f.separates) tt in
-      T_true _ (and-mk (separates s (side_of l)) (spare_test l (modules s)) a (test-passes l (modules s) (h _) f.spare))
+  fits_good h f =
+      let a : T (separates s (side_of l)) = rw (separates_test s (side_of l) f.separates) tt in
+      T_true _ (and_mk (separates s (side_of l)) (spare_test l (modules s)) a (test_passes l (modules s) (h _) f.spare))
 
   -- ---- where the checks let a side through
 
@@ -55,52 +55,52 @@ module _ (s l : List ℕ) where
   read (reading.Good b) e h = ((b, e), h)
   read (reading.Refused why) e h = let z : ◌≡◌ {A = ℕ} 0 1 = cc in absurd (omega arith)
 
-  pub given-tells : given s l ≡ Good → Reads s × Fits s l
+  pub given_tells : given s l ≡ Good → Reads s × Fits s l
   unfolding given given_sound
-  given-tells e =
+  given_tells e =
       let r = read (read_of s) refl e in
       let a = passed (is_short s l) Buffer (refuse_if (not (is_good s l)) Side Good) r.1 in
-      (r.0, fits-of a.0 (not-false _ (passed (not (is_good s l)) Side Good a.1).0))
+      (r.0, fits_of a.0 (not-false _ (passed (not (is_good s l)) Side Good a.1).0))
 
   -- such a side is lent whole
-  pub good-lent : given s l ≡ Good → Lent s l
-  good-lent e = let p = given-tells e in record { sound = sound s p.0.0 p.0.1; enough = p.1.enough }
+  pub good_lent : given s l ≡ Good → Lent s l
+  good_lent e = let p = given_tells e in record { sound = sound s p.0.0 p.0.1; enough = p.1.enough }
 
   module _ (h : Bytes l) where
-    pub given-passes : Reads s → Fits s l → given s l ≡ Good
+    pub given_passes : Reads s → Fits s l → given s l ≡ Good
     unfolding given given_sound is_short
-    given-passes r f = rw (r.1, le-ltb (length l) (bytes_for (modules s)) f.enough, fits-good h f)
+    given_passes r f = rw (r.1, le-ltb (length l) (bytes_for (modules s)) f.enough, fits_good h f)
 
     -- ---- where they refuse it
 
-    why-sound : Reads s → (why : Refusal) (p q : Bool) → is_short s l ≡ p → is_good s l ≡ q → refuse_if p Buffer (refuse_if (not q) Side Good) ≡ Refused why → Refuses s l why
+    why_sound : Reads s → (why : Refusal) (p q : Bool) → is_short s l ≡ p → is_good s l ≡ q → refuse_if p Buffer (refuse_if (not q) Side Good) ≡ Refused why → Refuses s l why
     unfolding is_short
-    why-sound r why true q a g e = let u : Buffer ≡ why = cc in subst (Refuses s l) u (short r (ltb-true _ _ a))
-    why-sound r why false true a g e = let z : ◌≡◌ {A = ℕ} 0 1 = cc in absurd (omega arith)
-    why-sound r why false false a g e =
+    why_sound r why true q a g e = let u : Buffer ≡ why = cc in subst (Refuses s l) u (short r (ltb-true _ _ a))
+    why_sound r why false true a g e = let z : ◌≡◌ {A = ℕ} 0 1 = cc in absurd (omega arith)
+    why_sound r why false false a g e =
         let u : Side ≡ why = cc in
-        subst (Refuses s l) u (misfit r (ltb-false _ _ a) (λ f. true≢false (sym (fits-good h f) ∙ g)))
+        subst (Refuses s l) u (misfit r (ltb-false _ _ a) (λ f. true≢false (sym (fits_good h f) ∙ g)))
 
-    why-read : (why : Refusal) (r : Reading) → read_of s ≡ r → after_read r (given_sound s l) ≡ Refused why → Refuses s l why
+    why_read : (why : Refusal) (r : Reading) → read_of s ≡ r → after_read r (given_sound s l) ≡ Refused why → Refuses s l why
     unfolding given_sound
-    why-read why (reading.Good b) e g = why-sound (b, e) why (is_short s l) (is_good s l) refl refl g
-    why-read why (reading.Refused w) e g = let u : w ≡ why = cc in reader (e ∙ ap reading.Refused u)
+    why_read why (reading.Good b) e g = why_sound (b, e) why (is_short s l) (is_good s l) refl refl g
+    why_read why (reading.Refused w) e g = let u : w ≡ why = cc in reader (e ∙ ap reading.Refused u)
 
-    pub given-refuses : (why : Refusal) → given s l ≡ Refused why → Refuses s l why
+    pub given_refuses : (why : Refusal) → given s l ≡ Refused why → Refuses s l why
     unfolding given
-    given-refuses why e = why-read why (read_of s) refl e
+    given_refuses why e = why_read why (read_of s) refl e
 
-    is-bad : (b : Bool) → is_good s l ≡ b → is_short s l ≡ false → (Fits s l → ⊥) → is_good s l ≡ false
-    is-bad true g a f = absurd (f (fits-of a g))
-    is-bad false g a f = g
+    is_bad : (b : Bool) → is_good s l ≡ b → is_short s l ≡ false → (Fits s l → ⊥) → is_good s l ≡ false
+    is_bad true g a f = absurd (f (fits_of a g))
+    is_bad false g a f = g
 
-    pub refuses-given : {why : Refusal} → Refuses s l why → given s l ≡ Refused why
+    pub refuses_given : {why : Refusal} → Refuses s l why → given s l ≡ Refused why
     unfolding given given_sound is_short
-    refuses-given (reader e) = rw e
-    refuses-given (short r a) = rw (r.1, lt-ltb (length l) (bytes_for (modules s)) a)
-    refuses-given (misfit r n f) =
+    refuses_given (reader e) = rw e
+    refuses_given (short r a) = rw (r.1, lt-ltb (length l) (bytes_for (modules s)) a)
+    refuses_given (misfit r n f) =
         let a = le-ltb (length l) (bytes_for (modules s)) n in
-        rw (r.1, a, is-bad (is_good s l) refl a f)
+        rw (r.1, a, is_bad (is_good s l) refl a f)
 
 -- ---- by document 01's numbers
 
@@ -109,9 +109,9 @@ low : (f : Found) (why : ℕ → Refusal) (rest : Reading) → ((i : ℕ) → nu
 low (At i) why rest h k = h i
 low Nothing why rest h k = k
 
-reader-low : (s : List ℕ) → (numbers_of (read_of s)).number ≤ 6
+reader_low : (s : List ℕ) → (numbers_of (read_of s)).number ≤ 6
 unfolding read_of rest_of
-reader-low s =
+reader_low s =
     low (check1 s) (λ i. Layout) (rest_of s) (λ i. omega arith)
     (low (check2 s) (λ i. Counts) _ (λ i. omega arith)
     (low (check3 s) Module _ (λ i. omega arith)
@@ -120,26 +120,26 @@ reader-low s =
     (low (check6 s) (λ i. Marks) (reading.Good (book_of s)) (λ i. omega arith) (omega arith))))))
 
 module _ (s l : List ℕ) where
-  by-reader : {why : Refusal} → read_of s ≡ reading.Refused why → number_of why ≤ 6
-  by-reader {why} e = subst (λ (r : Reading). (numbers_of r).number ≤ 6) e (reader-low s)
+  by_reader : {why : Refusal} → read_of s ≡ reading.Refused why → number_of why ≤ 6
+  by_reader {why} e = subst (λ (r : Reading). (numbers_of r).number ≤ 6) e (reader_low s)
 
-  pub one-to-six : {why : Refusal} → Refuses s l why → number_of why ≤ 6 → read_of s ≡ reading.Refused why
-  one-to-six (reader e) h = e
-  one-to-six (short r a) h = absurd (omega arith)
-  one-to-six (misfit r n f) h = absurd (omega arith)
+  pub one_to_six : {why : Refusal} → Refuses s l why → number_of why ≤ 6 → read_of s ≡ reading.Refused why
+  one_to_six (reader e) h = e
+  one_to_six (short r a) h = absurd (omega arith)
+  one_to_six (misfit r n f) h = absurd (omega arith)
 
   pub eight : {why : Refusal} → Refuses s l why → number_of why ≡ 8 → Reads s × (length l < bytes_for (modules s))
-  eight (reader e) h = absurd (omega (arith, by-reader e))
+  eight (reader e) h = absurd (omega (arith, by_reader e))
   eight (short r a) h = (r, a)
   eight (misfit r n f) h = absurd (omega arith)
 
   pub nine : {why : Refusal} → Refuses s l why → number_of why ≡ 9 → Reads s × (bytes_for (modules s) ≤ length l) × (Fits s l → ⊥)
-  nine (reader e) h = absurd (omega (arith, by-reader e))
+  nine (reader e) h = absurd (omega (arith, by_reader e))
   nine (short r a) h = absurd (omega arith)
   nine (misfit r n f) h = (r, n, f)
 
   -- and with no other
-  pub to-nine : {why : Refusal} → Refuses s l why → number_of why ≤ 9
-  to-nine (reader e) = omega (arith, by-reader e)
-  to-nine (short r a) = omega arith
-  to-nine (misfit r n f) = omega arith
+  pub to_nine : {why : Refusal} → Refuses s l why → number_of why ≤ 9
+  to_nine (reader e) = omega (arith, by_reader e)
+  to_nine (short r a) = omega arith
+  to_nine (misfit r n f) = omega arith

@@ -41,18 +41,18 @@ sunk x j (suc d) h c = sunk x j d (below x (d + j) (gone (x / 2 ^ (d + j)) (c (d
     later : (i d j : ℕ) → i < d + j → i < suc d + j
     later i d j h = omega arith
 
-    is-suc : (d j : ℕ) → suc d + j ≡ suc (d + j)
-    is-suc d j = omega arith
+    is_suc : (d j : ℕ) → suc d + j ≡ suc (d + j)
+    is_suc d j = omega arith
 
     gone : (a : ℕ) → a % 2 ≡ 0 → a < 2 → a ≡ 0
     gone a e h = omega arith
 
     two : x / 2 ^ (d + j) < 2
-    two = (div-lt_iff_lt-mul {k = 2 ^ (d + j)} {x = x} {y = 2} (pow_pos (d + j))).1 (subst (λ (k : ℕ). x < k) (ap (λ (k : ℕ). 2 ^ k) (is-suc d j) ∙ pow-succ' 2 (d + j)) h)
+    two = (div-lt_iff_lt-mul {k = 2 ^ (d + j)} {x = x} {y = 2} (pow_pos (d + j))).1 (subst (λ (k : ℕ). x < k) (ap (λ (k : ℕ). 2 ^ k) (is_suc d j) ∙ pow-succ' 2 (d + j)) h)
 
 -- ---- the test, and what it tests
-pub test-tells : (l : List ℕ) (m : ℕ) → T (spare_test l m) → SpareClear l m
-test-tells l m t k a b = go (or_split (eqb (m % 8) 0) (eqb (get_or l (m / 8) 0 / 2 ^ (m % 8)) 0) t)
+pub test_tells : (l : List ℕ) (m : ℕ) → T (spare_test l m) → SpareClear l m
+test_tells l m t k a b = go (or_split (eqb (m % 8) 0) (eqb (get_or l (m / 8) 0 / 2 ^ (m % 8)) 0) t)
   where
     none : (m k : ℕ) → m % 8 ≡ 0 → m ≤ k → k < (m + 7) / 8 * 8 → ⊥
     none m k e a b = omega arith
@@ -60,18 +60,18 @@ test-tells l m t k a b = go (or_split (eqb (m % 8) 0) (eqb (get_or l (m / 8) 0 /
     same_byte : (m k : ℕ) → m ≤ k → k < (m + 7) / 8 * 8 → k / 8 ≡ m / 8
     same_byte m k a b = omega arith
 
-    later-bit : (m k : ℕ) → m ≤ k → k / 8 ≡ m / 8 → m % 8 ≤ k % 8
-    later-bit m k a e = omega arith
+    later_bit : (m k : ℕ) → m ≤ k → k / 8 ≡ m / 8 → m % 8 ≤ k % 8
+    later_bit m k a e = omega arith
 
     go : T (eqb (m % 8) 0) ⊎ T (eqb (get_or l (m / 8) 0 / 2 ^ (m % 8)) 0) → bit_in 8 l k ≡ 0
     go (inl u) = absurd (none m k (eqb→eq (m % 8) 0 u) a b)
     go (inr u) =
         let e = same_byte m k a b in
         ap (λ (y : ℕ). get_or l y 0 / 2 ^ (k % 8) % 2) e
-        ∙ high_bit (get_or l (m / 8) 0) (k % 8) (m % 8) (below (get_or l (m / 8) 0) (m % 8) (eqb→eq (get_or l (m / 8) 0 / 2 ^ (m % 8)) 0 u)) (later-bit m k a e)
+        ∙ high_bit (get_or l (m / 8) 0) (k % 8) (m % 8) (below (get_or l (m / 8) 0) (m % 8) (eqb→eq (get_or l (m / 8) 0 / 2 ^ (m % 8)) 0 u)) (later_bit m k a e)
 
-pub test-passes : (l : List ℕ) (m : ℕ) → get_or l (m / 8) 0 < 256 → SpareClear l m → T (spare_test l m)
-test-passes l m h c = go (ℕ_discrete (m % 8) 0)
+pub test_passes : (l : List ℕ) (m : ℕ) → get_or l (m / 8) 0 < 256 → SpareClear l m → T (spare_test l m)
+test_passes l m h c = go (ℕ_discrete (m % 8) 0)
   where
     x : ℕ
     x = get_or l (m / 8) 0

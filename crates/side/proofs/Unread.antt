@@ -12,14 +12,14 @@ use lib.Seq.{length-take-le, take_all, get_or-take}
 use borrow.Author.Tests.{le-ltb, leb-true, leb-false, eq-eqb}
 use Rattle.line.specs.Card.{Alike}
 use Rattle.book.specs.First.{is_nothing}
-use Rattle.book.proofs.Firsts.{lowest-same}
+use Rattle.book.proofs.Firsts.{lowest_same}
 use Rattle.book.specs.Format.{modules, mark}
 use Rattle.side.specs.Sides.{side_of, bytes_for, spare_test}
 use Rattle.side.specs.Given.{misplaced, separates, is_short, is_good, given_sound, given}
 
 -- a list is as short as its first n elements are
-short-take : (n : ℕ) (l : List ℕ) → ltb (length l) n ≡ ltb (length (take n l)) n
-short-take n l = go (leb n (length l)) refl
+short_take : (n : ℕ) (l : List ℕ) → ltb (length l) n ≡ ltb (length (take n l)) n
+short_take n l = go (leb n (length l)) refl
   where
     go : (b : Bool) → leb n (length l) ≡ b → ltb (length l) n ≡ ltb (length (take n l)) n
     go true e =
@@ -34,25 +34,25 @@ module _ (s l k : List ℕ) (e : take (bytes_for (modules s)) l ≡ take (bytes_
   pub one_side : Alike (modules s) (side_of l) (side_of k)
   one_side m h = ap (λ (b : ℕ). eqb (b / 2 ^ (m % 8) % 2) 1) (byte (m / 8) (omega arith))
 
-  one-short : is_short s l ≡ is_short s k
+  one_short : is_short s l ≡ is_short s k
   unfolding is_short
-  one-short =
-      short-take (bytes_for (modules s)) l ∙ ap (λ (b : List ℕ). ltb (length b) (bytes_for (modules s))) e ∙ sym (short-take (bytes_for (modules s)) k)
+  one_short =
+      short_take (bytes_for (modules s)) l ∙ ap (λ (b : List ℕ). ltb (length b) (bytes_for (modules s))) e ∙ sym (short_take (bytes_for (modules s)) k)
 
-  one-separates : separates s (side_of l) ≡ separates s (side_of k)
+  one_separates : separates s (side_of l) ≡ separates s (side_of k)
   unfolding separates misplaced
-  one-separates =
+  one_separates =
       ap is_nothing
-      (lowest-same (misplaced s (side_of l)) (misplaced s (side_of k)) (modules s)
+      (lowest_same (misplaced s (side_of l)) (misplaced s (side_of k)) (modules s)
       (λ m h. ap (λ (b : Bool). (eqb (mark s m) 1 && not b) || (eqb (mark s m) 2 && b)) (one_side m h)))
 
-  one-spare : spare_test l (modules s) ≡ spare_test k (modules s)
-  one-spare = go (ℕ_discrete (modules s % 8) 0)
+  one_spare : spare_test l (modules s) ≡ spare_test k (modules s)
+  one_spare = go (ℕ_discrete (modules s % 8) 0)
     where
       go : Dec (modules s % 8 ≡ 0) → spare_test l (modules s) ≡ spare_test k (modules s)
       go (yes z) = rw (eq-eqb (modules s % 8) 0 z)
       go (no z) = ap (λ (b : ℕ). eqb (modules s % 8) 0 || eqb (b / 2 ^ (modules s % 8)) 0) (byte (modules s / 8) (omega (arith, z)))
 
-  pub one-given : given s l ≡ given s k
+  pub one_given : given s l ≡ given s k
   unfolding given given_sound is_good
-  one-given = rw (one-short, one-separates, one-spare)
+  one_given = rw (one_short, one_separates, one_spare)

@@ -4,12 +4,12 @@ use mathlib.Core.Path.{refl}
 use native.Mathlib.Omega.{arith}
 use Rattle.book.specs.Format.{nets, pins, first_pin}
 use Rattle.book.specs.Sound.{Sound}
-use Rattle.book.proofs.CardLaws.{first_pin-mono}
+use Rattle.book.proofs.CardLaws.{first_pin_mono}
 
 pub first-zero : (s : List ℕ) → 0 ≡ first_pin s 0
 unfolding first_pin
 first-zero s = refl
 
 -- no net's pins begin after the last pin
-pub first-most : (s : List ℕ) → Sound s → (n : ℕ) → n ≤ nets s → first_pin s n ≤ pins s
-first-most s h n l = omega (arith, first_pin-mono s n (nets s) l, h.pins-all)
+pub first_most : (s : List ℕ) → Sound s → (n : ℕ) → n ≤ nets s → first_pin s n ≤ pins s
+first_most s h n l = omega (arith, first_pin_mono s n (nets s) l, h.pins_all)

@@ -8,7 +8,7 @@ use lib.ListN.{length-set}
 use lib.Seq.{get_or-set_same, get_or-set_other, drop-set-lt, drop-drop}
 use borrow.Author.Tests.{eqb-true, eqb-false}
 use Rattle.side.specs.Sides.{bit_at, side_of, bytes_for, SpareClear, with_bit}
-use Rattle.side.proofs.Puts.{put_on, put-others}
+use Rattle.side.proofs.Puts.{put_on, put_others}
 use Rattle.split.specs.Writes.{opened, wrote, picked_of, Written}
 
 pub written_start : (how : List ℕ) (reached : Bool) (l : List ℕ) → Written how reached 0 l l
@@ -59,7 +59,7 @@ goes_on : (m : ℕ) (on : Bool) (l : List ℕ) → SpareClear l m → m / 8 < le
 goes_on m true l spare h =
     let q = opens m l spare h in
     let k : m / 8 < length (opened m l) = omega (arith, q.long) in
-    let other : (i : ℕ) → (i ≡ m → ⊥) → bit_at (with_bit (opened m l) m) i ≡ bit_at (opened m l) i = put-others (opened m l) m k in
+    let other : (i : ℕ) → (i ≡ m → ⊥) → bit_at (with_bit (opened m l) m) i ≡ bit_at (opened m l) i = put_others (opened m l) m k in
     record {
       long = length-set (opened m l) (m / 8) _ ∙ q.long;
       below = λ i u. other i (λ e. omega arith) ∙ q.below i u;

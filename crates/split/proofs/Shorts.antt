@@ -7,25 +7,25 @@ use Rattle.book.specs.Format.{modules, pins}
 use Rattle.side.specs.Sides.{bytes_for}
 use Rattle.side.specs.Given.{is_short}
 use Rattle.split.specs.Splits.{Buffers, too_short, Room}
-use Rattle.split.specs.Verdicts.{Lacks, for-near, for-far, for-flow}
+use Rattle.split.specs.Verdicts.{Lacks, for_near, for_far, for_flow}
 
 module _ (s : List ℕ) (b : Buffers) where
-  pub short-lacks : too_short s b ≡ true → Lacks s b
+  pub short_lacks : too_short s b ≡ true → Lacks s b
   unfolding too_short is_short
-  short-lacks = go _ _ _ (ltb-true (length b.near) (bytes_for (modules s))) (ltb-true (length b.far) (bytes_for (modules s))) (ltb-true (length b.flow) (pins s))
+  short_lacks = go _ _ _ (ltb-true (length b.near) (bytes_for (modules s))) (ltb-true (length b.far) (bytes_for (modules s))) (ltb-true (length b.flow) (pins s))
     where
       go : (x y z : Bool) → (x ≡ true → length b.near < bytes_for (modules s)) → (y ≡ true → length b.far < bytes_for (modules s)) → (z ≡ true → length b.flow < pins s) →
           (x || y || z) ≡ true → Lacks s b
-      go true y z f g h e = for-near (f refl)
-      go false true z f g h e = for-far (g refl)
-      go false false z f g h e = for-flow (h e)
+      go true y z f g h e = for_near (f refl)
+      go false true z f g h e = for_far (g refl)
+      go false false z f g h e = for_flow (h e)
 
-  pub lacks-short : Lacks s b → too_short s b ≡ true
+  pub lacks_short : Lacks s b → too_short s b ≡ true
   unfolding too_short is_short
-  lacks-short (for-near l) = rw (lt-ltb (length b.near) (bytes_for (modules s)) l)
-  lacks-short (for-far l) = rw (lt-ltb (length b.far) (bytes_for (modules s)) l, or-true (ltb (length b.near) (bytes_for (modules s))))
-  lacks-short (for-flow l) = rw (lt-ltb (length b.flow) (pins s) l) (or-true (is_short s b.near || is_short s b.far))
+  lacks_short (for_near l) = rw (lt-ltb (length b.near) (bytes_for (modules s)) l)
+  lacks_short (for_far l) = rw (lt-ltb (length b.far) (bytes_for (modules s)) l, or-true (ltb (length b.near) (bytes_for (modules s))))
+  lacks_short (for_flow l) = rw (lt-ltb (length b.flow) (pins s) l) (or-true (is_short s b.near || is_short s b.far))
 
-  pub room-long : Room s b.near b.far b.flow → too_short s b ≡ false
+  pub room_long : Room s b.near b.far b.flow → too_short s b ≡ false
   unfolding too_short is_short
-  room-long r = rw (le-ltb (length b.near) (bytes_for (modules s)) r.for-near, le-ltb (length b.far) (bytes_for (modules s)) r.for-far, le-ltb (length b.flow) (pins s) r.for-flow)
+  room_long r = rw (le-ltb (length b.near) (bytes_for (modules s)) r.for_near, le-ltb (length b.far) (bytes_for (modules s)) r.for_far, le-ltb (length b.flow) (pins s) r.for_flow)

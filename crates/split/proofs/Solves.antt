@@ -3,12 +3,12 @@ use Rattle.std.specs.Prelude.{◌≡◌, ℕ, ◌<◌, ◌≤◌, Bool, true, fa
 use mathlib.Core.Path.{sym, ap, ◌∙◌}
 use native.Mathlib.Omega.{arith}
 use Rattle.line.specs.Card.{Card, outside, Alike, Far}
-use Rattle.line.proofs.Below.{price-alike, near-alike, far-alike}
+use Rattle.line.proofs.Below.{price_alike, near_alike, far_alike}
 use Rattle.side.specs.Sides as sides
 use Rattle.flow.specs.Cards.{card_of, side_of}
 use Rattle.flow.specs.Raise.{Engine, Raised}
-use Rattle.flow.proofs.CardLaws.{card-valid}
-use Rattle.flow.proofs.Raised.{raised-small}
+use Rattle.flow.proofs.CardLaws.{card_valid}
+use Rattle.flow.proofs.Raised.{raised_small}
 use Rattle.split.specs.Writes.{Written}
 use Rattle.split.specs.Solved.{Row, Solved}
 
@@ -25,15 +25,15 @@ module _ (fs ms ws nt at pl mk q w₀ sn sm₀ : List ℕ) (engine : Engine fs m
       Far (card_of fs ms ws mk) (outside (side_of how')) → Written how' false (length how') far₀ far → Solved (card_of fs ms ws mk) near₀ far₀ near far fl
   unfolding card_of
   solved sm fl how how' near₀ far₀ near far e f raised w farther v =
-      let valid = card-valid fs ms ws mk engine.laid in
+      let valid = card_valid fs ms ws mk engine.laid in
       let a : Alike (length mk) (side_of how) (sides.side_of near) = λ m l. sym (w.side m (omega (arith, e))) in
       let b : Alike (length mk) (outside (side_of how')) (sides.side_of far) = λ m l. sym (v.side m (omega (arith, f))) in
       record {
-        near-row = row_of how true near₀ near (length mk) e w;
-        far-row = row_of how' false far₀ far (length mk) f v;
-        near-side = near-alike (card_of fs ms ws mk) valid (side_of how) (sides.side_of near) a raised.near;
-        far-side = far-alike (card_of fs ms ws mk) valid (outside (side_of how')) (sides.side_of far) b farther;
+        near_row = row_of how true near₀ near (length mk) e w;
+        far_row = row_of how' false far₀ far (length mk) f v;
+        near_side = near_alike (card_of fs ms ws mk) valid (side_of how) (sides.side_of near) a raised.near;
+        far_side = far_alike (card_of fs ms ws mk) valid (outside (side_of how')) (sides.side_of far) b farther;
         fair = raised.fair;
-        value = raised.value ∙ ap pos (price-alike (card_of fs ms ws mk) valid (side_of how) (sides.side_of near) a);
-        small = λ p l. raised-small fs ms ws nt at pl mk sm fl (side_of how) engine.laid engine.tables heavy raised p (omega (arith, raised.flows));
+        value = raised.value ∙ ap pos (price_alike (card_of fs ms ws mk) valid (side_of how) (sides.side_of near) a);
+        small = λ p l. raised_small fs ms ws nt at pl mk sm fl (side_of how) engine.laid engine.tables heavy raised p (omega (arith, raised.flows));
       }

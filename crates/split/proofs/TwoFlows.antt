@@ -7,24 +7,24 @@ use lib.Dec.{leb→le, lit≤}
 use Rattle.line.specs.Card.{Side, touches, crosses, cost, price, all_pins, Near, Far, Alike, pin}
 use Rattle.line.specs.Flow.{Fair, EachNet, total, total_sent, sent, taken, flow_at, value, only}
 use Rattle.line.proofs.Bools.{and_l, and_r}
-use Rattle.line.proofs.Below.{near-alike, far-alike}
+use Rattle.line.proofs.Below.{near_alike, far_alike}
 use Rattle.line.proofs.Duality.{Valid}
-use Rattle.line.proofs.Trial.{near_by, near_in, far_in, near-tried, far-tried}
+use Rattle.line.proofs.Trial.{near_by, near_in, far_in, near_tried, far_tried}
 use Rattle.book.specs.First.{first, lowest}
 use Rattle.book.specs.Listed.{listed}
 use Rattle.book.specs.Format.{modules, mark, u16, u32, field, entry_is, laid, first_pin}
 use Rattle.book.specs.Checks.{counted, bad_module, bad_net, bad_pin, check3, check4, check5, lacks, rest_of, read_of}
 use Rattle.book.specs.Cards.{card_of, nets_of}
 use Rattle.book.specs.declared.Reading.TheVariants.{Good}
-use Rattle.book.proofs.CardLaws.{card-valid}
+use Rattle.book.proofs.CardLaws.{card_valid}
 use Rattle.book.proofs.Sound.{sound}
 use Rattle.side.specs.Sides.{side_of}
-use Rattle.side.proofs.Spares.{test-tells}
+use Rattle.side.proofs.Spares.{test_tells}
 use Rattle.flow.specs.Cards.{Small}
 use Rattle.split.specs.declared.Parted.TheVariants.{Price}
 use Rattle.split.specs.Solved.{Row, Solved}
 use Rattle.split.specs.Splits.{Buffers, buffers, Room, Split}
-use Rattle.split.proofs.Answers.{told-split}
+use Rattle.split.proofs.Answers.{told_split}
 
 abbrev pub diamond : List ℕ
 diamond =
@@ -37,9 +37,9 @@ diamond =
     ∷ 0x00 ∷ 0x00 ∷ 0x01 ∷ 0x00 ∷ 0x00 ∷ 0x00 ∷ 0x02 ∷ 0x00 ∷ 0x01 ∷ 0x00 ∷ 0x02 ∷ 0x00 ∷ 0x03 ∷ 0x00
     ∷ []
 
-diamond-reads : read_of diamond ≡ Good (record { modules = 4; nets = 3; pins = 7 })
+diamond_reads : read_of diamond ≡ Good (record { modules = 4; nets = 3; pins = 7 })
 unfolding read_of rest_of lacks check5 check4 check3 bad_pin bad_net bad_module counted first_pin laid entry_is field u32 u16 lowest first
-diamond-reads = refl
+diamond_reads = refl
 
 -- the flow by module 1, and the flow by module 2
 abbrev pub by_one : List ℤ
@@ -59,10 +59,10 @@ left zs = buffers (7 ∷ []) (7 ∷ []) zs
 
 row : Row (modules diamond) (0 ∷ []) (7 ∷ [])
 unfolding u32 u16
-row = record { long = refl; spare = test-tells (7 ∷ []) 4 tt; tail = refl }
+row = record { long = refl; spare = test_tells (7 ∷ []) 4 tt; tail = refl }
 
 valid : Valid (card_of diamond)
-valid = card-valid diamond (sound diamond _ diamond-reads)
+valid = card_valid diamond (sound diamond _ diamond_reads)
 
 -- a side is {0, 1, 2}, told module by module
 alike : (x : Side) → x 0 ≡ true → x 1 ≡ true → x 2 ≡ true → x 3 ≡ false → Alike (modules diamond) x (side_of (7 ∷ []))
@@ -75,11 +75,11 @@ alike x a b c d (suc (suc (suc (suc m)))) l = absurd (omega arith)
 
 near : Near (card_of diamond) (side_of (7 ∷ []))
 unfolding near_by pin price cost crosses touches listed first_pin field u32 u16
-near = near-alike (card_of diamond) valid (near_in (card_of diamond)) (side_of (7 ∷ [])) (alike (near_in (card_of diamond)) refl refl refl refl) (near-tried (card_of diamond) valid)
+near = near_alike (card_of diamond) valid (near_in (card_of diamond)) (side_of (7 ∷ [])) (alike (near_in (card_of diamond)) refl refl refl refl) (near_tried (card_of diamond) valid)
 
 far : Far (card_of diamond) (side_of (7 ∷ []))
 unfolding near_by pin price cost crosses touches listed first_pin field u32 u16
-far = far-alike (card_of diamond) valid (far_in (card_of diamond)) (side_of (7 ∷ [])) (alike (far_in (card_of diamond)) refl refl refl refl) (far-tried (card_of diamond) valid)
+far = far_alike (card_of diamond) valid (far_in (card_of diamond)) (side_of (7 ∷ [])) (alike (far_in (card_of diamond)) refl refl refl refl) (far_tried (card_of diamond) valid)
 
 costs : 1 ≡ price (nets_of diamond) (side_of (7 ∷ []))
 unfolding price cost crosses touches listed first_pin field u32 u16
@@ -88,36 +88,36 @@ costs = refl
 -- ---- the flows
 
 -- the module rule, told of both free modules
-free-rule : (zs : List ℤ) → flow_at (only 1) (all_pins (nets_of diamond)) zs ≡ pos 0 → flow_at (only 2) (all_pins (nets_of diamond)) zs ≡ pos 0 →
+free_rule : (zs : List ℤ) → flow_at (only 1) (all_pins (nets_of diamond)) zs ≡ pos 0 → flow_at (only 2) (all_pins (nets_of diamond)) zs ≡ pos 0 →
     (m : ℕ) → m < modules diamond → mark diamond m ≡ 0 → flow_at (only m) (all_pins (nets_of diamond)) zs ≡ pos 0
 unfolding field u32 u16
-free-rule zs a b zero l e = absurd (omega arith)
-free-rule zs a b (suc zero) l e = a
-free-rule zs a b (suc (suc zero)) l e = b
-free-rule zs a b (suc (suc (suc zero))) l e = absurd (omega arith)
-free-rule zs a b (suc (suc (suc (suc m)))) l e = absurd (omega arith)
+free_rule zs a b zero l e = absurd (omega arith)
+free_rule zs a b (suc zero) l e = a
+free_rule zs a b (suc (suc zero)) l e = b
+free_rule zs a b (suc (suc (suc zero))) l e = absurd (omega arith)
+free_rule zs a b (suc (suc (suc (suc m)))) l e = absurd (omega arith)
 
-one-fair : Fair (card_of diamond) by_one
+one_fair : Fair (card_of diamond) by_one
 unfolding EachNet total total_sent flow_at all_pins listed first_pin field u32 u16
-one-fair = record {
+one_fair = record {
   nets = (record { zero = refl; fits = lit≤ tt }, (record { zero = refl; fits = lit≤ tt }, (record { zero = refl; fits = lit≤ tt }, tt)));
-  modules = free-rule by_one refl refl;
+  modules = free_rule by_one refl refl;
 }
 
-two-fair : Fair (card_of diamond) by_two
+two_fair : Fair (card_of diamond) by_two
 unfolding EachNet total total_sent flow_at all_pins listed first_pin field u32 u16
-two-fair = record {
+two_fair = record {
   nets = (record { zero = refl; fits = lit≤ tt }, (record { zero = refl; fits = lit≤ tt }, (record { zero = refl; fits = lit≤ tt }, tt)));
-  modules = free-rule by_two refl refl;
+  modules = free_rule by_two refl refl;
 }
 
 one_value : value (card_of diamond) by_one ≡ pos 1
 unfolding value flow_at all_pins listed first_pin field u32 u16
 one_value = refl
 
-two-value : value (card_of diamond) by_two ≡ pos 1
+two_value : value (card_of diamond) by_two ≡ pos 1
 unfolding value flow_at all_pins listed first_pin field u32 u16
-two-value = refl
+two_value = refl
 
 -- every number is within a weight of 0
 abbrev all_small : List ℤ → Bool
@@ -138,28 +138,28 @@ small (z ∷ zs) t (suc i) = small zs (and_r (leb (taken z) 65535) (all_small zs
 
 room : Room diamond (0 ∷ []) (0 ∷ []) (replicate 7 (pos 0))
 unfolding u32 u16
-room = record { sound = sound diamond _ diamond-reads; for-near = lit≤ tt; for-far = lit≤ tt; for-flow = lit≤ tt }
+room = record { sound = sound diamond _ diamond_reads; for_near = lit≤ tt; for_far = lit≤ tt; for_flow = lit≤ tt }
 
 solved : (zs : List ℤ) → Fair (card_of diamond) zs → value (card_of diamond) zs ≡ pos 1 → T (all_small zs) → Solved (card_of diamond) (0 ∷ []) (0 ∷ []) (7 ∷ []) (7 ∷ []) zs
-solved zs f v t = record { near-row = row; far-row = row; near-side = near; far-side = far; fair = f; value = v ∙ ap pos costs; small = λ i l. small zs t i }
+solved zs f v t = record { near_row = row; far_row = row; near_side = near; far_side = far; fair = f; value = v ∙ ap pos costs; small = λ i l. small zs t i }
 
 pub one_split : Split diamond lent (Price 1) (left by_one)
 unfolding u32 u16
-one_split = told-split diamond lent (left by_one) 1 (record {
-  reads = (_, diamond-reads);
+one_split = told_split diamond lent (left by_one) 1 (record {
+  reads = (_, diamond_reads);
   sound = room.sound;
   room = room;
-  holds = record { solved = solved by_one one-fair one_value tt; long = refl; tail = refl; price-is = costs };
+  holds = record { solved = solved by_one one_fair one_value tt; long = refl; tail = refl; price_is = costs };
 })
 
-pub two-split : Split diamond lent (Price 1) (left by_two)
+pub two_split : Split diamond lent (Price 1) (left by_two)
 unfolding u32 u16
-two-split = told-split diamond lent (left by_two) 1 (record {
-  reads = (_, diamond-reads);
+two_split = told_split diamond lent (left by_two) 1 (record {
+  reads = (_, diamond_reads);
   sound = room.sound;
   room = room;
-  holds = record { solved = solved by_two two-fair two-value tt; long = refl; tail = refl; price-is = costs };
+  holds = record { solved = solved by_two two_fair two_value tt; long = refl; tail = refl; price_is = costs };
 })
 
-pub two-flows : left by_one ≡ left by_two → ⊥
-two-flows e = let z : ◌≡◌ {A = ℕ} 1 0 = ap (λ (b : Buffers). sent (get_or b.flow 0 (pos 0))) e in absurd (omega arith)
+pub two_flows : left by_one ≡ left by_two → ⊥
+two_flows e = let z : ◌≡◌ {A = ℕ} 1 0 = ap (λ (b : Buffers). sent (get_or b.flow 0 (pos 0))) e in absurd (omega arith)

@@ -14,25 +14,25 @@ pub record Row (m : ℕ) (old new : List ℕ) : Type 0 where
 
 -- the near side, the far side, and a fair flow of their price, one number a pin
 pub record Solved (c : Card) (near₀ far₀ near far : List ℕ) (fl : List ℤ) : Type 0 where
-  pub near-row : Row c.modules near₀ near
-  pub far-row : Row c.modules far₀ far
-  pub near-side : Near c (side_of near)
-  pub far-side : Far c (side_of far)
+  pub near_row : Row c.modules near₀ near
+  pub far_row : Row c.modules far₀ far
+  pub near_side : Near c (side_of near)
+  pub far_side : Far c (side_of far)
   pub fair : Fair c fl
   pub value : value c fl ≡ pos (price c.nets (side_of near))
   pub small : (p : ℕ) → p < length fl → Small (slice_index_or fl p (pos 0))
 
 -- both sides have the bytes that so many modules need
 pub record Rooms (m : ℕ) (near far : List ℕ) : Type 0 where
-  pub for-near : bytes_for m ≤ length near
-  pub for-far : bytes_for m ≤ length far
+  pub for_near : bytes_for m ≤ length near
+  pub for_far : bytes_for m ≤ length far
 
 -- the slices of a card within a book's limits, with marks apart
 pub record Slices (fs ms ws mk : List ℕ) : Type 0 where
   pub laid : Laid fs ms ws mk
-  pub few-modules : length mk ≤ most_modules
-  pub few-nets : length ws ≤ most_nets
-  pub few-pins : length ms ≤ most_pins
+  pub few_modules : length mk ≤ most_modules
+  pub few_nets : length ws ≤ most_nets
+  pub few_pins : length ms ≤ most_pins
 
 -- a fair flow to begin with, one number a pin, and room for both sides
 pub record Begins (c : Card) (ms near far : List ℕ) (fl : List ℤ) : Type 0 where

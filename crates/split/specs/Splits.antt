@@ -34,7 +34,7 @@ pub record Holds (s : List ℕ) (p : ℕ) (old new : Buffers) : Type 0 where
   pub solved : Solved (card_of s) old.near old.far new.near new.far (take (pins s) new.flow)
   pub long : length new.flow ≡ length old.flow
   pub tail : drop (pins s) new.flow ≡ drop (pins s) old.flow
-  pub price-is : p ≡ price (nets_of s) (side_of new.near)
+  pub price_is : p ≡ price (nets_of s) (side_of new.near)
 
 -- Refused: nothing is written.
 pub record Kept (why : Refusal) (old : Buffers) (r : Parted) (new : Buffers) : Type 0 where
@@ -43,9 +43,9 @@ pub record Kept (why : Refusal) (old : Buffers) (r : Parted) (new : Buffers) : T
 
 -- Done: the price, and what the buffers hold.
 pub record Done (s : List ℕ) (old : Buffers) (r : Parted) (new : Buffers) : Type 0 where
-  pub at-price : ℕ
-  pub answer : r ≡ Price at-price
-  pub holds : Holds s at-price old new
+  pub at_price : ℕ
+  pub answer : r ≡ Price at_price
+  pub holds : Holds s at_price old new
 
 -- Check 8, then the split.
 abbrev pub SplitIf : Bool → List ℕ → Buffers → Parted → Buffers → Type 0
@@ -73,6 +73,6 @@ numbers_of (Refused why) = record { number = number_of why; place = place_of why
 -- a sound book and buffers with what the call needs, the flow with one number a pin
 pub record Room (s near far : List ℕ) (flow : List ℤ) : Type 0 where
   pub sound : Sound s
-  pub for-near : bytes_for (modules s) ≤ length near
-  pub for-far : bytes_for (modules s) ≤ length far
-  pub for-flow : pins s ≤ length flow
+  pub for_near : bytes_for (modules s) ≤ length near
+  pub for_far : bytes_for (modules s) ≤ length far
+  pub for_flow : pins s ≤ length flow

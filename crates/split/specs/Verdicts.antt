@@ -12,9 +12,9 @@ use Rattle.split.specs.Splits.{Buffers, Holds, Room}
 
 -- a lent buffer is shorter than this call needs
 pub data Lacks (s : List ℕ) (b : Buffers) : Type 0 where
-  for-near : length b.near < bytes_for (modules s) → Lacks s b
-  for-far : length b.far < bytes_for (modules s) → Lacks s b
-  for-flow : length b.flow < pins s → Lacks s b
+  for_near : length b.near < bytes_for (modules s) → Lacks s b
+  for_far : length b.far < bytes_for (modules s) → Lacks s b
+  for_flow : length b.flow < pins s → Lacks s b
 
 -- the book reads, no buffer is short, and the buffers hold a split of that price
 pub record Told (s : List ℕ) (p : ℕ) (old new : Buffers) : Type 0 where

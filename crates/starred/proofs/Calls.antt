@@ -1,4 +1,4 @@
--- What each call tells on a book, by plain trial (`trial`). It is so by the call's statement, whatever the book (`trial-tells`), and on small books it computes. Assumes nothing.
+-- What each call tells on a book, by plain trial (`trial`). It is so by the call's statement, whatever the book (`trial_tells`), and on small books it computes. Assumes nothing.
 use mathlib.Core.Path.{◌≡◌, refl, sym, ap, ◌∙◌}
 use mathlib.Core.Bool.{Bool, true, false, not, true≢false}
 use mathlib.Core.List.{List, []}
@@ -8,10 +8,10 @@ use lib.Dec.{T}
 use Rattle.line.specs.Card as card
 use Rattle.line.specs.Card.{whole_area}
 use Rattle.line.proofs.Bools.{T_false}
-use Rattle.line.proofs.Below.{price-alike, near-alike, far-alike}
-use Rattle.line.proofs.Cheap.{near-one, far-one}
+use Rattle.line.proofs.Below.{price_alike, near_alike, far_alike}
+use Rattle.line.proofs.Cheap.{near_one, far_one}
 use Rattle.line.proofs.Duality.{Valid}
-use Rattle.line.proofs.Trial.{near_in, far_in, near-tried, far-tried}
+use Rattle.line.proofs.Trial.{near_in, far_in, near_tried, far_tried}
 use Rattle.book.specs.Answer.{number_of, place_of}
 use Rattle.book.specs.Answer as reader
 use Rattle.book.specs.Format.{modules, area, mark}
@@ -22,7 +22,7 @@ use Rattle.book.specs.declared.Reading.{Reading}
 use Rattle.book.specs.declared.Reading.TheVariants.{Good, Refused}
 use Rattle.book.specs.declared.Refusal.{Refusal}
 use Rattle.book.specs.declared.Refusal.TheVariants as refusal
-use Rattle.book.proofs.CardLaws.{card-valid}
+use Rattle.book.proofs.CardLaws.{card_valid}
 use Rattle.book.proofs.Sound.{sound}
 use Rattle.side.specs.Sides.{side_of, Bytes}
 use Rattle.side.specs.Prices as prices
@@ -33,9 +33,9 @@ use Rattle.split.specs.Splits.{Buffers, Split}
 use Rattle.split.specs.Verdicts as verdicts
 use Rattle.split.specs.declared.Parted.{Parted}
 use Rattle.split.specs.declared.Parted.TheVariants as parted
-use Rattle.split.proofs.Answers.{split-tells, split-prices, refuses-split}
+use Rattle.split.proofs.Answers.{split_tells, split_prices, refuses_split}
 use Rattle.split.proofs.Held.{room_of}
-use Rattle.split.proofs.Least.{near-price}
+use Rattle.split.proofs.Least.{near_price}
 use Rattle.gate.specs.Gates.{good_gate, gate_says}
 use Rattle.gate.specs.declared.Gate.{Gate}
 use Rattle.gate.specs.declared.Verdict.{Verdict}
@@ -44,9 +44,9 @@ use Rattle.walk.specs.Walk.{Outcome, found, none_left, free_to, answer}
 use Rattle.walk.specs.Call as walks
 use Rattle.walk.specs.Call.{Walked, Comes, checked_of, written, side_bytes}
 use Rattle.walk.proofs.Call.{walked_one}
-use Rattle.walk.proofs.Plain.{run, run-walks}
+use Rattle.walk.proofs.Plain.{run, run_walks}
 use Rattle.starred.specs.Cases.{Call, read, price, move, check, split, walk, Parts, Rounds, Told, refused, parts, Leaves, Drawn, SplitTells, WalkTells, leaves, Tells}
-use Rattle.starred.proofs.Bytes.{bytes-side, row-over}
+use Rattle.starred.proofs.Bytes.{bytes_side, row_over}
 
 -- ---- the split
 
@@ -75,7 +75,7 @@ parts_by (Refused why) s = refused split (number_of why) (place_of why)
 module _ (s : List ℕ) where
   module _ (b : Book) (e : read_of s ≡ Good b) where
     valid : Valid (card_of s)
-    valid = card-valid s (sound s b e)
+    valid = card_valid s (sound s b e)
 
     -- by the page of meanings
     drawn : Drawn s (parts_by (Good b) s)
@@ -84,38 +84,38 @@ module _ (s : List ℕ) where
         let y = far_in (card_of s) in
         let m = modules s in
         record {
-          near-side = near-alike (card_of s) valid x (side_of (side_bytes x m)) (λ k l. sym (bytes-side x m k l)) (near-tried (card_of s) valid);
-          far-side = far-alike (card_of s) valid y (side_of (side_bytes y m)) (λ k l. sym (bytes-side y m k l)) (far-tried (card_of s) valid);
-          price-is = price-alike (card_of s) valid (side_of (side_bytes x m)) x (bytes-side x m);
+          near_side = near_alike (card_of s) valid x (side_of (side_bytes x m)) (λ k l. sym (bytes_side x m k l)) (near_tried (card_of s) valid);
+          far_side = far_alike (card_of s) valid y (side_of (side_bytes y m)) (λ k l. sym (bytes_side y m k l)) (far_tried (card_of s) valid);
+          price_is = price_alike (card_of s) valid (side_of (side_bytes x m)) x (bytes_side x m);
         }
 
     -- by the split's statement
-    good-leaves : (old new : Buffers) (r : Parted) → T (not (splits.too_short s old)) → Bytes new.near → Bytes new.far → Split s old r new → Leaves (parts_by (Good b) s) old r new
-    good-leaves old new r t a d k =
+    good_leaves : (old new : Buffers) (r : Parted) → T (not (splits.too_short s old)) → Bytes new.near → Bytes new.far → Split s old r new → Leaves (parts_by (Good b) s) old r new
+    good_leaves old new r t a d k =
         let room = room_of s old (sound s b e) (T_false _ t) in
-        let p = split-prices s old new r (b, e) room k in
-        let k' : Split s old (parted.Price p.at-price) new = rw p.answer at k in
-        let h = (split-tells s old new p.at-price k').holds.solved in
-        let near = near-one (card_of s) (side_of new.near) (near_in (card_of s)) h.near-side (near-tried (card_of s) valid) in
-        let far = far-one (card_of s) (side_of new.far) (far_in (card_of s)) h.far-side (far-tried (card_of s) valid) in
-        let q : p.at-price ≡ card.price (nets_of s) (near_in (card_of s)) = sym (near-price s old new p.at-price k') ∙ price-alike (card_of s) valid (side_of new.near) (near_in (card_of s)) near in
+        let p = split_prices s old new r (b, e) room k in
+        let k' : Split s old (parted.Price p.at_price) new = rw p.answer at k in
+        let h = (split_tells s old new p.at_price k').holds.solved in
+        let near = near_one (card_of s) (side_of new.near) (near_in (card_of s)) h.near_side (near_tried (card_of s) valid) in
+        let far = far_one (card_of s) (side_of new.far) (far_in (card_of s)) h.far_side (far_tried (card_of s) valid) in
+        let q : p.at_price ≡ card.price (nets_of s) (near_in (card_of s)) = sym (near_price s old new p.at_price k') ∙ price_alike (card_of s) valid (side_of new.near) (near_in (card_of s)) near in
         record {
           numbers = ap splits.numbers_of (p.answer ∙ ap parted.Price q);
-          near = row-over (modules s) old.near new.near (near_in (card_of s)) a room.for-near h.near-row near;
-          far = row-over (modules s) old.far new.far (far_in (card_of s)) d room.for-far h.far-row far;
+          near = row_over (modules s) old.near new.near (near_in (card_of s)) a room.for_near h.near_row near;
+          far = row_over (modules s) old.far new.far (far_in (card_of s)) d room.for_far h.far_row far;
         }
 
-  refused-leaves : (why : Refusal) → read_of s ≡ Refused why → (old new : Buffers) (r : Parted) → Split s old r new → Leaves (parts_by (Refused why) s) old r new
-  refused-leaves why e old new r k =
-      let h = refuses-split s old new r (verdicts.reader e) k in
+  refused_leaves : (why : Refusal) → read_of s ≡ Refused why → (old new : Buffers) (r : Parted) → Split s old r new → Leaves (parts_by (Refused why) s) old r new
+  refused_leaves why e old new r k =
+      let h = refuses_split s old new r (verdicts.reader e) k in
       record { numbers = ap splits.numbers_of h.refused; near = ap (λ (b : Buffers). b.near) h.kept; far = ap (λ (b : Buffers). b.far) h.kept }
 
-  split-tried : SplitTells s (parts_by (read_of s) s)
-  split-tried = go (read_of s) refl
+  split_tried : SplitTells s (parts_by (read_of s) s)
+  split_tried = go (read_of s) refl
     where
       go : (r : Reading) → read_of s ≡ r → SplitTells s (parts_by r s)
-      go (Good b) e = record { every = good-leaves b e; page = λ z. drawn b e }
-      go (Refused why) e = record { every = λ old new r t a d. refused-leaves why e old new r; page = λ z. absurd (no_zero why z) }
+      go (Good b) e = record { every = good_leaves b e; page = λ z. drawn b e }
+      go (Refused why) e = record { every = λ old new r t a d. refused_leaves why e old new r; page = λ z. absurd (no_zero why z) }
 
 -- ---- the walk
 
@@ -142,28 +142,28 @@ rounds_by (Good b) false s g = refused (walk g) (number_of refusal.Gate) (place_
 rounds_by (Refused why) good s g = refused (walk g) (number_of why) (place_of why)
 
 module _ (s : List ℕ) (g : Gate) (side rows : List ℕ) (t : T (not (walks.too_short s side rows))) where
-  ran-leaves : (rs : List Row) (o : Outcome) → written s rs o side rows ≡ leaves (ran s (rs, o)) side rows
-  ran-leaves rs (found x) = refl
-  ran-leaves rs none_left = refl
+  ran_leaves : (rs : List Row) (o : Outcome) → written s rs o side rows ≡ leaves (ran s (rs, o)) side rows
+  ran_leaves rs (found x) = refl
+  ran_leaves rs none_left = refl
 
-  walk-allows : Walked s g side rows (leaves (rounds_by (read_of s) (good_gate g) s g) side rows)
+  walk_allows : Walked s g side rows (leaves (rounds_by (read_of s) (good_gate g) s g) side rows)
   unfolding checked_of walks.rows_bytes
-  walk-allows = go (read_of s) (good_gate g) (walks.too_short s side rows) refl (T_false _ t)
+  walk_allows = go (read_of s) (good_gate g) (walks.too_short s side rows) refl (T_false _ t)
     where
       go : (r : Reading) (d w : Bool) → read_of s ≡ r → w ≡ false →
           Comes (walks.if_read r (walks.refuse_if (not d) refusal.Gate (walks.refuse_if w refusal.Buffer (Good (book_of s))))) s g side rows (leaves (rounds_by r d s g) side rows)
       go (Good b) true false e u = record {
         rounds = (run_of s g).0;
         outcome = (run_of s g).1;
-        walks = run-walks (card_of s) (area s) (said s g) (suc (free_to (mark s) (modules s))) (mark s) (card-valid s (sound s b e)) (omega arith);
-        left = sym (ran-leaves (run_of s g).0 (run_of s g).1);
+        walks = run_walks (card_of s) (area s) (said s g) (suc (free_to (mark s) (modules s))) (mark s) (card_valid s (sound s b e)) (omega arith);
+        left = sym (ran_leaves (run_of s g).0 (run_of s g).1);
       }
       go (Good b) true true e u = absurd (true≢false u)
       go (Good b) false w e u = refl
       go (Refused why) d w e u = refl
 
-walk-tried : (s : List ℕ) (g : Gate) → WalkTells s g (rounds_by (read_of s) (good_gate g) s g)
-walk-tried s g side rows a t = (λ h. walked_one s g side rows a (leaves (rounds_by (read_of s) (good_gate g) s g) side rows) h (walk-allows s g side rows t), λ h. rw h (walk-allows s g side rows t))
+walk_tried : (s : List ℕ) (g : Gate) → WalkTells s g (rounds_by (read_of s) (good_gate g) s g)
+walk_tried s g side rows a t = (λ h. walked_one s g side rows a (leaves (rounds_by (read_of s) (good_gate g) s g) side rows) h (walk_allows s g side rows t), λ h. rw h (walk_allows s g side rows t))
 
 -- ---- every call
 
@@ -175,10 +175,10 @@ trial s (check l xs p) = checker.numbers_of (checker.checked_of s l xs p)
 trial s split = parts_by (read_of s) s
 trial s (walk g) = rounds_by (read_of s) (good_gate g) s g
 
-pub trial-tells : (s : List ℕ) (k : Call) → Tells s k (trial s k)
-trial-tells s read = refl
-trial-tells s (price l) = refl
-trial-tells s (move l m) = refl
-trial-tells s (check l xs p) = refl
-trial-tells s split = split-tried s
-trial-tells s (walk g) = walk-tried s g
+pub trial_tells : (s : List ℕ) (k : Call) → Tells s k (trial s k)
+trial_tells s read = refl
+trial_tells s (price l) = refl
+trial_tells s (move l m) = refl
+trial_tells s (check l xs p) = refl
+trial_tells s split = split_tried s
+trial_tells s (walk g) = walk_tried s g

@@ -22,7 +22,7 @@ text : bytes "price 1\nnear 2 modules area 5\n0\n1\nfar 2 modules area 5\n0\n1\n
 unfolding bytes digits module_lines side_text split_text area_to price cost crosses touches listed first_pin field u32 u16
 text = refl
 
-pub bridge-listed : Lists bridge (bytes "price 1\nnear 2 modules area 5\n0\n1\nfar 2 modules area 5\n0\n1\n")
-bridge-listed =
+pub bridge_listed : Lists bridge (bytes "price 1\nnear 2 modules area 5\n0\n1\nfar 2 modules area 5\n0\n1\n")
+bridge_listed =
     let drawn = all_hold.0.page refl in
-    rw reads (record { near = side_of (0b0011 ∷ []); far = side_of (0b0011 ∷ []); near-is = drawn.near-side; far-is = drawn.far-side; text-is = text })
+    rw reads (record { near = side_of (0b0011 ∷ []); far = side_of (0b0011 ∷ []); near_is = drawn.near_side; far_is = drawn.far_side; text_is = text })

@@ -26,7 +26,7 @@ use Rattle.walk.proofs.Plain.{run}
 use Rattle.starred.specs.Cases.{Call, Told, refused, Case, tells, refuses, works_out, Tells, Holds, Each}
 use Rattle.starred.specs.Table.{table}
 use Rattle.starred.proofs.Told.{worked_out, told}
-use Rattle.starred.proofs.Calls.{trial, trial-tells}
+use Rattle.starred.proofs.Calls.{trial, trial_tells}
 
 -- ---- a case
 
@@ -42,12 +42,12 @@ passes (tells s k t) = tells_so s k t
 passes (refuses s k n i) = tells_so s k (refused k n i)
 passes (works_out s g low high) = good_gate g && works_out_so s g low high
 
-so-tells : (s : List ℕ) (k : Call) (t : Told k) → T (tells_so s k t) → Tells s k t
-so-tells s k t h = subst (Tells s k) ((told k).tells (trial s k) t h) (trial-tells s k)
+so_tells : (s : List ℕ) (k : Call) (t : Told k) → T (tells_so s k t) → Tells s k t
+so_tells s k t h = subst (Tells s k) ((told k).tells (trial s k) t h) (trial_tells s k)
 
 pub means : (c : Case) → T (passes c) → Holds c
-means (tells s k t) h = so-tells s k t h
-means (refuses s k n i) h = so-tells s k (refused k n i) h
+means (tells s k t) h = so_tells s k t h
+means (refuses s k n i) h = so_tells s k (refused k n i) h
 means (works_out s g low high) h = record {
   good = and_l (good_gate g) (works_out_so s g low high) h;
   band = worked_out.tells (band_of g (whole_area (card_of s) (area s))) (record { low = low; high = high }) (and_r (good_gate g) (works_out_so s g low high) h);
@@ -59,10 +59,10 @@ abbrev pub all_pass : List Case → Bool
 all_pass [] = true
 all_pass (c ∷ cs) = passes c && all_pass cs
 
-pub all-mean : (cs : List Case) → T (all_pass cs) → Each Holds cs
-all-mean [] h = tt
-all-mean (c ∷ cs) h = (means c (and_l (passes c) (all_pass cs) h), all-mean cs (and_r (passes c) (all_pass cs) h))
+pub all_mean : (cs : List Case) → T (all_pass cs) → Each Holds cs
+all_mean [] h = tt
+all_mean (c ∷ cs) h = (means c (and_l (passes c) (all_pass cs) h), all_mean cs (and_r (passes c) (all_pass cs) h))
 
 pub all_hold : Each Holds table
 unfolding priced changed changed_good is_free given given_sound is_good is_short separates misplaced price cost crosses touches listed read_of rest_of lacks check5 check4 check3 bad_pin bad_net bad_module counted first_pin laid entry_is field u32 u16 lowest first checked_of checked_sound is_short_flow checked_good agree ruled_of balance_of check12 bad_module_flow check11 bad_net_flow sum_to run near_by pin area_to on_cut choice turn binary add sub mul of_int le lt
-all_hold = all-mean table tt
+all_hold = all_mean table tt

@@ -30,14 +30,14 @@ same_integer (pos m) (negsuc n) = false
 same_integer (negsuc m) (pos n) = false
 same_integer (negsuc m) (negsuc n) = eqb m n
 
-pub integer-tells : (a b : ℤ) → T (same_integer a b) → a ≡ b
-integer-tells (pos m) (pos n) t = ap pos (eqb→eq m n t)
-integer-tells (pos m) (negsuc n) t = absurd t
-integer-tells (negsuc m) (pos n) t = absurd t
-integer-tells (negsuc m) (negsuc n) t = ap negsuc (eqb→eq m n t)
+pub integer_tells : (a b : ℤ) → T (same_integer a b) → a ≡ b
+integer_tells (pos m) (pos n) t = ap pos (eqb→eq m n t)
+integer_tells (pos m) (negsuc n) t = absurd t
+integer_tells (negsuc m) (pos n) t = absurd t
+integer_tells (negsuc m) (negsuc n) t = ap negsuc (eqb→eq m n t)
 
 abbrev pub integer : Test ℤ
-integer = record { same = same_integer; tells = integer-tells }
+integer = record { same = same_integer; tells = integer_tells }
 
 -- ---- tests of what is made of parts
 
@@ -45,14 +45,14 @@ module _ {A B : Type 0} (p : Test A) (q : Test B) where
   abbrev same_pair : A × B → A × B → Bool
   same_pair a b = p.same a.0 b.0 && q.same a.1 b.1
 
-  pub pair-tells : (a b : A × B) → T (same_pair a b) → a ≡ b
-  pair-tells a b t =
+  pub pair_tells : (a b : A × B) → T (same_pair a b) → a ≡ b
+  pair_tells a b t =
       let e = p.tells a.0 b.0 (and_l (p.same a.0 b.0) (q.same a.1 b.1) t) in
       let f = q.tells a.1 b.1 (and_r (p.same a.0 b.0) (q.same a.1 b.1) t) in
       λ i. (e i, f i)
 
   abbrev pub pair : Test (A × B)
-  pair = record { same = same_pair; tells = pair-tells }
+  pair = record { same = same_pair; tells = pair_tells }
 
 module _ {A : Type 0} (p : Test A) where
   abbrev same_list : List A → List A → Bool
@@ -81,23 +81,23 @@ module _ {A B : Type 0} (f : A → B) (g : B → A) (whole : (a : A) → g (f a)
 -- ---- doubles
 
 -- which of the three a double is, with its sign, its digits and its exponent
-abbrev taken-apart : Float → (ℕ × Bool) × (ℕ × ℤ)
-taken-apart nan = ((0, false), (0, pos 0))
-taken-apart (inf s) = ((1, s), (0, pos 0))
-taken-apart (fin s m e) = ((2, s), (m, e))
+abbrev taken_apart : Float → (ℕ × Bool) × (ℕ × ℤ)
+taken_apart nan = ((0, false), (0, pos 0))
+taken_apart (inf s) = ((1, s), (0, pos 0))
+taken_apart (fin s m e) = ((2, s), (m, e))
 
 abbrev made : ℕ → Bool → ℕ → ℤ → Float
 made zero s m e = nan
 made (suc zero) s m e = inf s
 made (suc (suc k)) s m e = fin s m e
 
-abbrev put-together : (ℕ × Bool) × (ℕ × ℤ) → Float
-put-together p = made p.0.0 p.0.1 p.1.0 p.1.1
+abbrev put_together : (ℕ × Bool) × (ℕ × ℤ) → Float
+put_together p = made p.0.0 p.0.1 p.1.0 p.1.1
 
-pub float-whole : (x : Float) → put-together (taken-apart x) ≡ x
-float-whole nan = refl
-float-whole (inf s) = refl
-float-whole (fin s m e) = refl
+pub float_whole : (x : Float) → put_together (taken_apart x) ≡ x
+float_whole nan = refl
+float_whole (inf s) = refl
+float_whole (fin s m e) = refl
 
 abbrev pub float : Test Float
-float = by taken-apart put-together float-whole (pair (pair number bool) (pair number integer))
+float = by taken_apart put_together float_whole (pair (pair number bool) (pair number integer))

@@ -102,9 +102,9 @@ pub record Leaves (t : Parts) (old : Buffers) (r : Parted) (new : Buffers) : Typ
 
 -- By the page of meanings: the near side, the far side and their price.
 pub record Drawn (s : List ℕ) (t : Parts) : Type 0 where
-  pub near-side : Near (card_of s) (side_of t.near)
-  pub far-side : Far (card_of s) (side_of t.far)
-  pub price-is : card.price (nets_of s) (side_of t.near) ≡ t.numbers.price
+  pub near_side : Near (card_of s) (side_of t.near)
+  pub far_side : Far (card_of s) (side_of t.far)
+  pub price_is : card.price (nets_of s) (side_of t.near) ≡ t.numbers.price
 
 -- Whatever the lent buffers, where none is short: each result that the split's statement allows leaves this. And where the split is done, this is so by the page of meanings.
 pub record SplitTells (s : List ℕ) (t : Parts) : Type 0 where

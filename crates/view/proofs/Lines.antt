@@ -15,23 +15,23 @@ use Rattle.book.specs.Answer.{number_of, place_of}
 use Rattle.book.specs.declared.Refusal.{Refusal}
 use Rattle.view.specs.Text.{bytes, decimal, module_line, module_lines, pair_line, side_text, refused_text}
 
-pub line-feed : bytes "\n" ≡ 10 ∷ []
+pub line_feed : bytes "\n" ≡ 10 ∷ []
 unfolding bytes
-line-feed = refl
+line_feed = refl
 
-pub pair-long : (first : List ℕ) (n : ℕ) (second : List ℕ) (k : ℕ) → length (pair_line first n second k) ≡ length (first ++ decimal n) + length (second ++ decimal k) + 1
-pair-long first n second k =
+pub pair_long : (first : List ℕ) (n : ℕ) (second : List ℕ) (k : ℕ) → length (pair_line first n second k) ≡ length (first ++ decimal n) + length (second ++ decimal k) + 1
+pair_long first n second k =
     omega
-    (arith, length-append (first ++ decimal n ++ (second ++ decimal k)) (bytes "\n"), length-append (first ++ decimal n) (second ++ decimal k), ap length line-feed)
+    (arith, length-append (first ++ decimal n ++ (second ++ decimal k)) (bytes "\n"), length-append (first ++ decimal n) (second ++ decimal k), ap length line_feed)
 
 pub line_on : (x : Side) (m : ℕ) → x m ≡ true → module_line x m ≡ decimal m ++ bytes "\n"
 line_on x m e = rw e refl
 
-pub line-off : (x : Side) (m : ℕ) → x m ≡ false → module_line x m ≡ []
-line-off x m e = rw e refl
+pub line_off : (x : Side) (m : ℕ) → x m ≡ false → module_line x m ≡ []
+line_off x m e = rw e refl
 
-pub line-long : (x : Side) (m : ℕ) → x m ≡ true → length (module_line x m) ≡ length (decimal m) + 1
-line-long x m e = ap length (line_on x m e) ∙ omega (arith, length-append (decimal m) (bytes "\n"), ap length line-feed)
+pub line_long : (x : Side) (m : ℕ) → x m ≡ true → length (module_line x m) ≡ length (decimal m) + 1
+line_long x m e = ap length (line_on x m e) ∙ omega (arith, length-append (decimal m) (bytes "\n"), ap length line_feed)
 
 pub lines_next : (x : Side) (m : ℕ) → module_lines x (m + 1) ≡ module_lines x m ++ module_line x m
 unfolding module_lines
@@ -40,8 +40,8 @@ lines_next x m = rw (add-one m) refl
 pub lines_long : (x : Side) (m : ℕ) → length (module_lines x (m + 1)) ≡ length (module_lines x m) + length (module_line x m)
 lines_long x m = ap length (lines_next x m) ∙ length-append (module_lines x m) (module_line x m)
 
-pub lines-grow : (x : Side) (m n : ℕ) → m ≤ n → length (module_lines x m) ≤ length (module_lines x n)
-lines-grow x m n l = le_ind {n = m} (λ k. length (module_lines x m) ≤ length (module_lines x k)) (le_refl (length (module_lines x m))) more n l
+pub lines_grow : (x : Side) (m n : ℕ) → m ≤ n → length (module_lines x m) ≤ length (module_lines x n)
+lines_grow x m n l = le_ind {n = m} (λ k. length (module_lines x m) ≤ length (module_lines x k)) (le_refl (length (module_lines x m))) more n l
   where
     more : (k : ℕ) → m ≤ k → length (module_lines x m) ≤ length (module_lines x k) → length (module_lines x m) ≤ length (module_lines x (suc k))
     more k _ h = rw (← (add-one k)) (omega (arith, h, lines_long x k))

@@ -1,4 +1,4 @@
--- What a split answers is the listing of its book: the text of both sides, or of the refusal, since the buffers are never short (`listed-price`, `listed-refused`). Assumes nothing.
+-- What a split answers is the listing of its book: the text of both sides, or of the refusal, since the buffers are never short (`listed_price`, `listed_refused`). Assumes nothing.
 use Prim.Native.Nat.{ℕ}
 use mathlib.Core.Path.{◌≡◌, refl, ap}
 use mathlib.Core.List.{List}
@@ -8,10 +8,10 @@ use Rattle.book.specs.declared.Refusal.{Refusal}
 use Rattle.book.proofs.Sound.{sound}
 use Rattle.side.specs.Sides.{side_of}
 use Rattle.split.specs.Splits.{Buffers, Split}
-use Rattle.split.specs.Verdicts.{Told, for-near, for-far, for-flow, Refuses, reader, short}
+use Rattle.split.specs.Verdicts.{Told, for_near, for_far, for_flow, Refuses, reader, short}
 use Rattle.split.specs.declared.Parted.{Parted}
 use Rattle.split.specs.declared.Parted.TheVariants.{Price, Refused}
-use Rattle.split.proofs.Answers.{split-tells, split-refused}
+use Rattle.split.proofs.Answers.{split_tells, split_refused}
 use Rattle.view.specs.Text.{split_text, refused_text}
 use Rattle.view.specs.Listing.{Lists}
 use Rattle.view.specs.Puts.{Rows, Ample}
@@ -19,36 +19,36 @@ use Rattle.view.specs.Puts.{Rows, Ample}
 module _ (s : List ℕ) (old new : Buffers) (r : Parted) (k : Split s old r new) where
   module _ (p : ℕ) (e : r ≡ Price p) where
     told : Told s p old new
-    told = split-tells s old new p (rw e at k)
+    told = split_tells s old new p (rw e at k)
 
     pub rows_split : Rows s new.near new.far
     rows_split =
         let t = told in
         let q = t.holds.solved in
         record {
-          near-lent = record { sound = t.sound; enough = omega (arith, t.room.for-near, q.near-row.long) };
-          far-lent = record { sound = t.sound; enough = omega (arith, t.room.for-far, q.far-row.long) };
-          near-spare = q.near-row.spare;
-          far-spare = q.far-row.spare;
+          near_lent = record { sound = t.sound; enough = omega (arith, t.room.for_near, q.near_row.long) };
+          far_lent = record { sound = t.sound; enough = omega (arith, t.room.for_far, q.far_row.long) };
+          near_spare = q.near_row.spare;
+          far_spare = q.far_row.spare;
         }
 
-    pub listed-price : Lists s (split_text s p (side_of new.near) (side_of new.far))
-    listed-price =
+    pub listed_price : Lists s (split_text s p (side_of new.near) (side_of new.far))
+    listed_price =
         let t = told in
         let q = t.holds.solved in
         rw t.reads.1 (record {
           near = side_of new.near;
           far = side_of new.far;
-          near-is = q.near-side;
-          far-is = q.far-side;
-          text-is = ap (λ (n : ℕ). split_text s n (side_of new.near) (side_of new.far)) t.holds.price-is;
+          near_is = q.near_side;
+          far_is = q.far_side;
+          text_is = ap (λ (n : ℕ). split_text s n (side_of new.near) (side_of new.far)) t.holds.price_is;
         })
 
-  pub listed-refused : (why : Refusal) → r ≡ Refused why → Ample old.near old.far (length old.flow) → Lists s (refused_text why)
-  listed-refused why e a = go (split-refused s old new why (rw e at k))
+  pub listed_refused : (why : Refusal) → r ≡ Refused why → Ample old.near old.far (length old.flow) → Lists s (refused_text why)
+  listed_refused why e a = go (split_refused s old new why (rw e at k))
     where
       go : {why : Refusal} → Refuses s old why → Lists s (refused_text why)
       go (reader e) = rw e refl
-      go (short r (for-near l)) = absurd (omega (arith, l, a.near-long, (sound s r.0 r.1).few-modules))
-      go (short r (for-far l)) = absurd (omega (arith, l, a.far-long, (sound s r.0 r.1).few-modules))
-      go (short r (for-flow l)) = absurd (omega (arith, l, a.flow-long, (sound s r.0 r.1).few-pins))
+      go (short r (for_near l)) = absurd (omega (arith, l, a.near_long, (sound s r.0 r.1).few_modules))
+      go (short r (for_far l)) = absurd (omega (arith, l, a.far_long, (sound s r.0 r.1).few_modules))
+      go (short r (for_flow l)) = absurd (omega (arith, l, a.flow_long, (sound s r.0 r.1).few_pins))

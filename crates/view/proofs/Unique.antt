@@ -1,4 +1,4 @@
--- A book has one listing (`lists-one`), and any two results that a call's statement allows are one (`list-one`, `view-one`). Assumes nothing.
+-- A book has one listing (`lists_one`), and any two results that a call's statement allows are one (`list_one`, `view_one`). Assumes nothing.
 use Prim.Native.Nat.{ℕ, zero, suc, ◌≤◌}
 use mathlib.Core.Path.{◌≡◌, refl, sym, ap, ap₂, ◌∙◌}
 use mathlib.Core.Bool.{Bool, true, false, cond}
@@ -7,8 +7,8 @@ use native.Mathlib.Omega.{arith}
 use lib.Dec.{ltb}
 use lib.ListN.{length, drop, length-append}
 use Rattle.line.specs.Card.{Side, price, Alike}
-use Rattle.line.proofs.Area.{area_to-same}
-use Rattle.line.proofs.Cheap.{near-one, far-one}
+use Rattle.line.proofs.Area.{area_to_same}
+use Rattle.line.proofs.Cheap.{near_one, far_one}
 use Rattle.book.specs.Format.{modules, area}
 use Rattle.book.specs.Checks.{read_of}
 use Rattle.book.specs.Cards.{card_of, nets_of}
@@ -17,7 +17,7 @@ use Rattle.book.specs.declared.Reading.TheVariants.{Good, Refused}
 use Rattle.book.specs.declared.Step.{Step}
 use Rattle.book.specs.declared.Step.TheVariants.{Number, End}
 use Rattle.book.proofs.Sound.{sound}
-use Rattle.side.proofs.Alike.{alike-price}
+use Rattle.side.proofs.Alike.{alike_price}
 use Rattle.view.specs.declared.Listed.{Listed}
 use Rattle.view.specs.declared.Listed.TheVariants.{Text}
 use Rattle.view.specs.Text.{bytes, decimal, module_lines, pair_line, side_text, split_text}
@@ -35,36 +35,36 @@ module _ (x y : Side) where
   side_same : (name s : List ℕ) → Alike (modules s) x y → side_text name s x ≡ side_text name s y
   side_same name s e =
       sym (side-text name s x _ _ _ refl refl refl)
-      ∙ (λ i. pair_line name (area_to-same (λ m. 1) x y (modules s) e i) (bytes " modules area ") (area_to-same (area s) x y (modules s) e i) ++ lines_same (modules s) e i)
+      ∙ (λ i. pair_line name (area_to_same (λ m. 1) x y (modules s) e i) (bytes " modules area ") (area_to_same (area s) x y (modules s) e i) ++ lines_same (modules s) e i)
       ∙ side-text name s y _ _ _ refl refl refl
 
-split-same : (s : List ℕ) (p q : ℕ) (near far near' far' : Side) → p ≡ q → Alike (modules s) near near' → Alike (modules s) far far' → split_text s p near far ≡ split_text s q near' far'
+split_same : (s : List ℕ) (p q : ℕ) (near far near' far' : Side) → p ≡ q → Alike (modules s) near near' → Alike (modules s) far far' → split_text s p near far ≡ split_text s q near' far'
 unfolding split_text
-split-same s p q near far near' far' e n f =
+split_same s p q near far near' far' e n f =
     λ i. bytes "price " ++ decimal (e i) ++ bytes "\n" ++ side_same near near' (bytes "near ") s n i ++ side_same far far' (bytes "far ") s f i
 
 -- the near side and the far side are unique, and so is the text
-pub lists-one : (s text other : List ℕ) → Lists s text → Lists s other → text ≡ other
-lists-one s text other = go (read_of s) refl
+pub lists_one : (s text other : List ℕ) → Lists s text → Lists s other → text ≡ other
+lists_one s text other = go (read_of s) refl
   where
     go : (r : Reading) → read_of s ≡ r → ListsBy r s text → ListsBy r s other → text ≡ other
     go (Refused why) e a b = a ∙ sym b
     go (Good k) e a b =
-        let n = near-one (card_of s) a.near b.near a.near-is b.near-is in
-        let f = far-one (card_of s) a.far b.far a.far-is b.far-is in
-        let p : price (nets_of s) a.near ≡ price (nets_of s) b.near = alike-price s a.near b.near n (sound s k e) in
-        a.text-is ∙ split-same s _ _ a.near a.far b.near b.far p n f ∙ sym b.text-is
+        let n = near_one (card_of s) a.near b.near a.near_is b.near_is in
+        let f = far_one (card_of s) a.far b.far a.far_is b.far_is in
+        let p : price (nets_of s) a.near ≡ price (nets_of s) b.near = alike_price s a.near b.near n (sound s k e) in
+        a.text_is ∙ split_same s _ _ a.near a.far b.near b.far p n f ∙ sym b.text_is
 
-pub prints-one : (s text other : List ℕ) → Prints s text → Prints s other → text ≡ other
-prints-one s text other = go (ltb largest_book (length s))
+pub prints_one : (s text other : List ℕ) → Prints s text → Prints s other → text ≡ other
+prints_one s text other = go (ltb largest_book (length s))
   where
     go : (b : Bool) → PrintsIf b s text → PrintsIf b s other → text ≡ other
     go true a b = a ∙ sym b
-    go false a b = lists-one s text other a b
+    go false a b = lists_one s text other a b
 
 seen_one : (p : Step) (s : List ℕ) (at : ℕ) (text other : List ℕ) → Seen p s at text → Seen p s at other → text ≡ other
 seen_one (Number n c) s at text other a b = a ∙ sym b
-seen_one End s at text other a b = lists-one (drop at s) text other a b
+seen_one End s at text other a b = lists_one (drop at s) text other a b
 
 -- ---- the call
 
@@ -78,16 +78,16 @@ writes_one {P} one old r q new fresh = go (ltb (length old) room)
         (a.answer ∙ ap (λ (t : List ℕ). Text (length t)) e ∙ sym b.answer, a.bytes ∙ ap (λ (t : List ℕ). t ++ drop (length t) old) e ∙ sym b.bytes)
 
 -- `view::list`
-pub list-one : (s old : List ℕ) (r q : Listed) (new fresh : List ℕ) → Writes (Prints s) old r new → Writes (Prints s) old q fresh → (r ≡ q) × (new ≡ fresh)
-list-one s = writes_one (prints-one s)
+pub list_one : (s old : List ℕ) (r q : Listed) (new fresh : List ℕ) → Writes (Prints s) old r new → Writes (Prints s) old q fresh → (r ≡ q) × (new ≡ fresh)
+list_one s = writes_one (prints_one s)
 
 -- `view::View::list`
-pub view-one : (p : Step) (s : List ℕ) (at : ℕ) (old : List ℕ) (r q : Listed) (new fresh : List ℕ) → Writes (Seen p s at) old r new → Writes (Seen p s at) old q fresh → (r ≡ q) × (new ≡ fresh)
-view-one p s at = writes_one (seen_one p s at)
+pub view_one : (p : Step) (s : List ℕ) (at : ℕ) (old : List ℕ) (r q : Listed) (new fresh : List ℕ) → Writes (Seen p s at) old r new → Writes (Seen p s at) old q fresh → (r ≡ q) × (new ≡ fresh)
+view_one p s at = writes_one (seen_one p s at)
 
 -- the text lies within the lent bytes
-pub list-within : (s old : List ℕ) (k : ℕ) (r : Listed) (new : List ℕ) → r ≡ Text k → Writes (Prints s) old r new → k ≤ length new
-list-within s old k r new e = go (ltb (length old) room)
+pub list_within : (s old : List ℕ) (k : ℕ) (r : Listed) (new : List ℕ) → r ≡ Text k → Writes (Prints s) old r new → k ≤ length new
+list_within s old k r new e = go (ltb (length old) room)
   where
     go : (b : Bool) → WritesIf b (Prints s) old r new → k ≤ length new
     go true a = let f = a.answer in let z : ◌≡◌ {A = ℕ} 0 1 = cc in absurd (omega arith)

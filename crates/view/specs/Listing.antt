@@ -20,9 +20,9 @@ largest_book = 32 + 4 * most_modules + 4 * most_nets + 2 * most_pins
 pub record Splits (s text : List ℕ) : Type 0 where
   pub near : Side
   pub far : Side
-  pub near-is : Near (card_of s) near
-  pub far-is : Far (card_of s) far
-  pub text-is : text ≡ split_text s (price (nets_of s) near) near far
+  pub near_is : Near (card_of s) near
+  pub far_is : Far (card_of s) far
+  pub text_is : text ≡ split_text s (price (nets_of s) near) near far
 
 abbrev pub ListsBy : Reading → List ℕ → List ℕ → Type 0
 ListsBy (reading.Refused why) s text = text ≡ refused_text why

@@ -14,16 +14,16 @@ pub record Put (text : List ℕ) (at : ℕ) (old : List ℕ) (next : ℕ) (new :
 
 -- Two sides of a book as rows of bits, spare bits 0.
 pub record Rows (s near far : List ℕ) : Type 0 where
-  pub near-lent : Lent s near
-  pub far-lent : Lent s far
-  pub near-spare : SpareClear near (modules s)
-  pub far-spare : SpareClear far (modules s)
+  pub near_lent : Lent s near
+  pub far_lent : Lent s far
+  pub near_spare : SpareClear near (modules s)
+  pub far_spare : SpareClear far (modules s)
 
 -- Buffers for a split that are never short.
 pub record Ample (near far : List ℕ) (flow : ℕ) : Type 0 where
-  pub near-long : length near ≡ bytes_for most_modules
-  pub far-long : length far ≡ bytes_for most_modules
-  pub flow-long : flow ≡ most_pins
+  pub near_long : length near ≡ bytes_for most_modules
+  pub far_long : length far ≡ bytes_for most_modules
+  pub flow_long : flow ≡ most_pins
 
 -- The listing of a book stands in front.
 pub record Listing (s old : List ℕ) (next : ℕ) (new : List ℕ) : Type 0 where

@@ -1,4 +1,4 @@
-// The listing of a book, read through one view: the lent bytes and the place reached. The functions over the view are thin: each takes it apart and calls a covered one with the bytes and the place.
+// The listing of a book, read through one view: the lent bytes and the place reached. The functions over the view are thin: each takes it apart and calls one with the bytes and the place.
 #![tactic(auto)]
 
 mod listing;

@@ -1,5 +1,5 @@
--- The modules with a pin on a net that X cuts, net by net and pin by pin as a row of bits is filled: it is cleared (`zero-next`, `cleared`), what is put on adds up (`adds_then`), the modules
--- of a net are put on (`net-next`), and of each net that is cut (`cut-next`, `cut-row`). Assumes nothing.
+-- The modules with a pin on a net that X cuts, net by net and pin by pin as a row of bits is filled: it is cleared (`zero_next`, `cleared`), what is put on adds up (`adds_then`), the modules
+-- of a net are put on (`net_next`), and of each net that is cut (`cut_next`, `cut-row`). Assumes nothing.
 use Rattle.std.specs.Prelude.{◌≡◌, ℕ, ◌+◌, ◌/◌, ◌%◌, ◌^◌, ◌<◌, Bool, true, false, ◌&&◌, ◌||◌, eqb, ltb, List, length, get_or, take, set}
 use mathlib.Core.Path.{refl, sym, ap, ◌∙◌}
 use mathlib.Core.Bool.{or_assoc, or-false}
@@ -14,9 +14,9 @@ use Rattle.line.specs.Card.{Net, Side, touches, crosses}
 use Rattle.line.specs.Flow.{only}
 use Rattle.book.specs.Format.{nets, pin_count}
 use Rattle.book.specs.Cards.{net_of, nets_of, pin_of, pins_of}
-use Rattle.book.proofs.CardLaws.{nets-length, net-at, touches-start, touches-next, touches-all}
+use Rattle.book.proofs.CardLaws.{nets-length, net-at, touches_start, touches_next, touches_all}
 use Rattle.side.specs.Sides.{side_of, with_bit}
-use Rattle.side.proofs.Puts.{put-side}
+use Rattle.side.proofs.Puts.{put_side}
 use Rattle.walk.specs.Walk.{on_cut}
 use Rattle.walk.specs.Parts.{Cleared, Adds, on_net, on_cut_net, CutRow}
 use Rattle.walk.proofs.Rounds.{on_cut-suc}
@@ -60,24 +60,24 @@ adds_then y z w old l k g h e = record {
 }
 
 pub adds_one : (l : List ℕ) (p : ℕ) → p / 8 < length l → Adds (only p) l (with_bit l p)
-adds_one l p h = record { long = length-set l (p / 8) _; side = put-side l p h }
+adds_one l p h = record { long = length-set l (p / 8) _; side = put_side l p h }
 
 -- one more pin of net n
-pub net-start : (s : List ℕ) (n : ℕ) (l : List ℕ) → Adds (λ m. touches (only m) (take 0 (pins_of s n))) l l
-net-start s n l = adds_none (λ m. touches (only m) (take 0 (pins_of s n))) l (λ m. touches-start s (only m) n)
+pub net_start : (s : List ℕ) (n : ℕ) (l : List ℕ) → Adds (λ m. touches (only m) (take 0 (pins_of s n))) l l
+net_start s n l = adds_none (λ m. touches (only m) (take 0 (pins_of s n))) l (λ m. touches_start s (only m) n)
 
-pub net-next : (s : List ℕ) (n j : ℕ) (old l k : List ℕ) (p : ℕ) → j < pin_count s n → p ≡ pin_of s n j → p / 8 < length l → k ≡ with_bit l p →
+pub net_next : (s : List ℕ) (n j : ℕ) (old l k : List ℕ) (p : ℕ) → j < pin_count s n → p ≡ pin_of s n j → p / 8 < length l → k ≡ with_bit l p →
     Adds (λ m. touches (only m) (take j (pins_of s n))) old l → Adds (λ m. touches (only m) (take (j + 1) (pins_of s n))) old k
-net-next s n j old l k p u e h q a =
+net_next s n j old l k p u e h q a =
     rw q
     (adds_then (λ m. touches (only m) (take j (pins_of s n))) (only p) (λ m. touches (only m) (take (j + 1) (pins_of s n))) old l (with_bit l p) a (adds_one l p h)
     (λ m.
-    touches-next s (only m) n j u ∙ ap (λ (b : Bool). touches (only m) (take j (pins_of s n)) || b) (ap (λ (i : ℕ). eqb i m) (sym e) ∙ eqb_swap p m)))
+    touches_next s (only m) n j u ∙ ap (λ (b : Bool). touches (only m) (take j (pins_of s n)) || b) (ap (λ (i : ℕ). eqb i m) (sym e) ∙ eqb_swap p m)))
 
-pub net-all : (s : List ℕ) (n j : ℕ) (old l : List ℕ) → j ≡ pin_count s n → Adds (λ m. touches (only m) (take j (pins_of s n))) old l → Adds (on_net s n) old l
-net-all s n j old l e a =
+pub net_all : (s : List ℕ) (n j : ℕ) (old l : List ℕ) → j ≡ pin_count s n → Adds (λ m. touches (only m) (take j (pins_of s n))) old l → Adds (on_net s n) old l
+net_all s n j old l e a =
     adds_same (λ m. touches (only m) (take j (pins_of s n))) (on_net s n) old l a
-    (λ m. ap (λ (i : ℕ). touches (only m) (take i (pins_of s n))) e ∙ touches-all s (only m) n)
+    (λ m. ap (λ (i : ℕ). touches (only m) (take i (pins_of s n))) e ∙ touches_all s (only m) n)
 
 -- a net that X cuts, and one that it does not
 pub cut_on : (s : List ℕ) (x : Side) (n : ℕ) (b : Bool) (old l : List ℕ) → b ≡ crosses x (net_of s n) → b ≡ true → Adds (on_net s n) old l → Adds (on_cut_net s x n) old l
@@ -87,13 +87,13 @@ pub cut_off : (s : List ℕ) (x : Side) (n : ℕ) (b : Bool) (l : List ℕ) → 
 cut_off s x n b l e t = adds_none (on_cut_net s x n) l (λ m. ap (λ (d : Bool). d && on_net s n m) (sym e ∙ t))
 
 -- net by net
-pub cut-start : (s : List ℕ) (x : Side) (l : List ℕ) → Adds (on_cut (take 0 (nets_of s)) x) l l
+pub cut_start : (s : List ℕ) (x : Side) (l : List ℕ) → Adds (on_cut (take 0 (nets_of s)) x) l l
 unfolding on_cut
-cut-start s x l = adds_none (on_cut (take 0 (nets_of s)) x) l (λ m. refl)
+cut_start s x l = adds_none (on_cut (take 0 (nets_of s)) x) l (λ m. refl)
 
-pub cut-next : (s : List ℕ) (x : Side) (n : ℕ) (old l k : List ℕ) → n < nets s → Adds (on_cut (take n (nets_of s)) x) old l → Adds (on_cut_net s x n) l k →
+pub cut_next : (s : List ℕ) (x : Side) (n : ℕ) (old l k : List ℕ) → n < nets s → Adds (on_cut (take n (nets_of s)) x) old l → Adds (on_cut_net s x n) l k →
     Adds (on_cut (take (n + 1) (nets_of s)) x) old k
-cut-next s x n old l k u a b =
+cut_next s x n old l k u a b =
     adds_then (on_cut (take n (nets_of s)) x) (on_cut_net s x n) (on_cut (take (n + 1) (nets_of s)) x) old l k a b
     (λ m.
     rw (add-one n)
@@ -107,8 +107,8 @@ cut-row s x n old l k e c a = record {
       ∙ ap (λ (ns : List Net). on_cut ns x m) (take_all n (nets_of s) (omega (arith, nets-length s)));
 }
 
-pub zero-next : (l : List ℕ) (i : ℕ) → i < length l → ((j : ℕ) → j < i → get_or l j 0 ≡ 0) → (length (set l i 0) ≡ length l) × ((j : ℕ) → j < i + 1 → get_or (set l i 0) j 0 ≡ 0)
-zero-next l i u f = (length-set l i 0, λ j v. go j v (ℕ_discrete j i))
+pub zero_next : (l : List ℕ) (i : ℕ) → i < length l → ((j : ℕ) → j < i → get_or l j 0 ≡ 0) → (length (set l i 0) ≡ length l) × ((j : ℕ) → j < i + 1 → get_or (set l i 0) j 0 ≡ 0)
+zero_next l i u f = (length-set l i 0, λ j v. go j v (ℕ_discrete j i))
   where
     go : (j : ℕ) → j < i + 1 → Dec (j ≡ i) → get_or (set l i 0) j 0 ≡ 0
     go j v (yes e) = rw e (get_or-set_same l i 0 0 u)

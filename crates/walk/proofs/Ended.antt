@@ -1,4 +1,4 @@
--- A row of bits whose spare bits are 0 is the bytes of its side (`side-row`), and what the last round came to is what the call answers (`finish-stops`, `finish-ends`). Assumes nothing.
+-- A row of bits whose spare bits are 0 is the bytes of its side (`side_row`), and what the last round came to is what the call answers (`finish_stops`, `finish_ends`). Assumes nothing.
 use Rattle.std.specs.Prelude.{◌≡◌, ℕ, zero, suc, ◌+◌, ◌*◌, ◌/◌, ◌%◌, ◌^◌, ◌<◌, ◌≤◌, Bool, true, false, cond, ◌&&◌, eqb, ltb, List, length, get_or, take}
 use mathlib.Core.Path.{refl, sym, ap, ap₂, ◌∙◌}
 use native.Mathlib.Nat.{div-one, pow-zero, pow-succ', div-div-eq-div-mul}
@@ -8,7 +8,7 @@ use lib.Seq.{ext_get_or, length-take-le, get_or-take}
 use borrow.Author.Tests.{eq-eqb, ne_eqb, eqb-true, eqb-false, ltb-false}
 use Rattle.line.specs.Card.{area_to}
 use Rattle.book.specs.Format.{modules, area}
-use Rattle.book.proofs.Elements.{length-listed, get_or-listed}
+use Rattle.book.proofs.Elements.{length_listed, get_or_listed}
 use Rattle.side.specs.Sides.{side_of, bytes_for, SpareClear}
 use Rattle.walk.specs.declared.Answered.{Answered}
 use Rattle.walk.specs.declared.Answered.TheVariants.{Done, Stuck}
@@ -20,10 +20,10 @@ use Rattle.walk.specs.Answer.{Finished}
 -- ---- bits and bytes
 
 -- a number of n bits looks at those alone
-binary-same : (n : ℕ) (a b : ℕ → Bool) → ((j : ℕ) → j < n → a j ≡ b j) → binary a n ≡ binary b n
+binary_same : (n : ℕ) (a b : ℕ → Bool) → ((j : ℕ) → j < n → a j ≡ b j) → binary a n ≡ binary b n
 unfolding binary
-binary-same zero a b e = refl
-binary-same (suc n) a b e = ap₂ (λ (d : Bool) (k : ℕ). cond d 1 0 + 2 * k) (e 0 (omega arith)) (binary-same n (λ j. a (suc j)) (λ j. b (suc j)) (λ j l. e (suc j) (omega arith)))
+binary_same zero a b e = refl
+binary_same (suc n) a b e = ap₂ (λ (d : Bool) (k : ℕ). cond d 1 0 + 2 * k) (e 0 (omega arith)) (binary_same n (λ j. a (suc j)) (λ j. b (suc j)) (λ j l. e (suc j) (omega arith)))
 
 low_bit : (b : ℕ) → cond (eqb (b % 2) 1) 1 0 ≡ b % 2
 low_bit b = go (eqb (b % 2) 1) (eqb-true (b % 2) 1) (eqb-false (b % 2) 1)
@@ -33,14 +33,14 @@ low_bit b = go (eqb (b % 2) 1) (eqb-true (b % 2) 1) (eqb-false (b % 2) 1)
     go false f g = let n = g refl in omega (arith, n)
 
 -- the number that its bits make
-binary-bits : (n b : ℕ) → b < 2 ^ n → binary (λ j. eqb (b / 2 ^ j % 2) 1) n ≡ b
+binary_bits : (n b : ℕ) → b < 2 ^ n → binary (λ j. eqb (b / 2 ^ j % 2) 1) n ≡ b
 unfolding binary
-binary-bits zero b h = omega (arith, pow-zero 2)
-binary-bits (suc n) b h =
+binary_bits zero b h = omega (arith, pow-zero 2)
+binary_bits (suc n) b h =
     let p : 2 ^ suc n ≡ 2 * 2 ^ n = pow-succ' 2 n in
     let half : b / 2 < 2 ^ n = omega (arith, p) in
     let next : (j : ℕ) → b / 2 ^ suc j ≡ b / 2 / 2 ^ j = λ j. ap (λ (d : ℕ). b / d) (pow-succ' 2 j) ∙ sym (div-div-eq-div-mul b 2 (2 ^ j)) in
-    let rest : binary (λ j. eqb (b / 2 ^ suc j % 2) 1) n ≡ b / 2 = (λ t. binary (λ j. eqb (next j t % 2) 1) n) ∙ binary-bits n (b / 2) half in
+    let rest : binary (λ j. eqb (b / 2 ^ suc j % 2) 1) n ≡ b / 2 = (λ t. binary (λ j. eqb (next j t % 2) 1) n) ∙ binary_bits n (b / 2) half in
     let low : cond (eqb (b / 2 ^ 0 % 2) 1) 1 0 ≡ b % 2 = ap (λ (d : ℕ). cond (eqb (d % 2) 1) 1 0) (div-one b) ∙ low_bit b in
     omega (arith, low, rest)
 
@@ -61,39 +61,39 @@ module _ (n : ℕ) (x : List ℕ) (small : (i : ℕ) → get_or x i 0 < 256) (en
 
   byte : (i : ℕ) → i < bytes_for n → side_byte (side_of x) n i ≡ get_or x i 0
   byte i l =
-      binary-same 8 (λ j. ltb (8 * i + j) n && side_of x (8 * i + j)) (λ j. eqb (get_or x i 0 / 2 ^ j % 2) 1) (λ j u. bit i j l u) ∙ binary-bits 8 (get_or x i 0) (small i)
+      binary_same 8 (λ j. ltb (8 * i + j) n && side_of x (8 * i + j)) (λ j. eqb (get_or x i 0 / 2 ^ j % 2) 1) (λ j u. bit i j l u) ∙ binary_bits 8 (get_or x i 0) (small i)
 
-  pub side-row : take (bytes_for n) x ≡ side_bytes (side_of x) n
-  side-row =
+  pub side_row : take (bytes_for n) x ≡ side_bytes (side_of x) n
+  side_row =
       let t = length-take-le (bytes_for n) x enough in
-      ext_get_or 0 (take (bytes_for n) x) (side_bytes (side_of x) n) (t ∙ sym (length-listed (side_byte (side_of x) n) (bytes_for n)))
+      ext_get_or 0 (take (bytes_for n) x) (side_bytes (side_of x) n) (t ∙ sym (length_listed (side_byte (side_of x) n) (bytes_for n)))
       (λ i u.
       let l : i < bytes_for n = omega (arith, u, t) in
-      get_or-take (bytes_for n) x i 0 l ∙ sym (byte i l) ∙ sym (get_or-listed (side_byte (side_of x) n) (bytes_for n) i 0 l))
+      get_or-take (bytes_for n) x i 0 l ∙ sym (byte i l) ∙ sym (get_or_listed (side_byte (side_of x) n) (bytes_for n) i 0 l))
 
 -- ---- the total area
 
-pub area-none : (s : List ℕ) → 0 ≡ area_to (area s) (λ m. true) 0
+pub area_none : (s : List ℕ) → 0 ≡ area_to (area s) (λ m. true) 0
 unfolding area_to
-area-none s = refl
+area_none s = refl
 
-pub area-more : (s : List ℕ) (m sum a : ℕ) → sum ≡ area_to (area s) (λ m. true) m → a ≡ area s m → sum + a ≡ area_to (area s) (λ m. true) (m + 1)
+pub area_more : (s : List ℕ) (m sum a : ℕ) → sum ≡ area_to (area s) (λ m. true) m → a ≡ area s m → sum + a ≡ area_to (area s) (λ m. true) (m + 1)
 unfolding area_to
-area-more s m sum a e f = rw (add-one m) (ap₂ (λ (p q : ℕ). p + q) e f)
+area_more s m sum a e f = rw (add-one m) (ap₂ (λ (p q : ℕ). p + q) e f)
 
 -- ---- the answer
 
-pub finish-stops : (s : List ℕ) (w : Standing) (old new : List ℕ) (r : Answered) → w.row.way ≡ 0 → new ≡ over (side_bytes (side_of w.x) (modules s)) old → r ≡ Done w.row.price w.rounds →
+pub finish_stops : (s : List ℕ) (w : Standing) (old new : List ℕ) (r : Answered) → w.row.way ≡ 0 → new ≡ over (side_bytes (side_of w.x) (modules s)) old → r ≡ Done w.row.price w.rounds →
     Finished s w old new r
-finish-stops s w old new r e f g =
+finish_stops s w old new r e f g =
     let b : eqb w.row.way 0 ≡ true = eq-eqb w.row.way 0 e in
     record {
       side = f ∙ ap (λ (d : Bool). side_after (modules s) (cond d (found (side_of w.x)) none_left) old) (sym b);
       answer = g ∙ ap (λ (d : Bool). cond d (Done w.row.price w.rounds) (Stuck w.rounds)) (sym b);
     }
 
-pub finish-ends : (s : List ℕ) (w : Standing) (old : List ℕ) (r : Answered) → ¬ (w.row.way ≡ 0) → r ≡ Stuck w.rounds → Finished s w old old r
-finish-ends s w old r e g =
+pub finish_ends : (s : List ℕ) (w : Standing) (old : List ℕ) (r : Answered) → ¬ (w.row.way ≡ 0) → r ≡ Stuck w.rounds → Finished s w old old r
+finish_ends s w old r e g =
     let b : eqb w.row.way 0 ≡ false = ne_eqb w.row.way 0 e in
     record {
       side = ap (λ (d : Bool). side_after (modules s) (cond d (found (side_of w.x)) none_left) old) (sym b);

@@ -1,4 +1,4 @@
--- The marks after a round, module by module (`pinned-next`), the free modules counted (`free_more`), and a search that has not begun (`lowest_start`). Assumes nothing.
+-- The marks after a round, module by module (`pinned_next`), the free modules counted (`free_more`), and a search that has not begun (`lowest_start`). Assumes nothing.
 use Rattle.std.specs.Prelude.{◌≡◌, ℕ, ◌+◌, ◌<◌, Bool, cond, ◌&&◌, eqb, List, length, get_or, set}
 use mathlib.Core.Path.{refl, sym, ap, ◌∙◌}
 use native.Mathlib.Numerals.{add-one}
@@ -13,13 +13,13 @@ use Rattle.book.specs.declared.Found.TheVariants.{Nothing}
 use Rattle.walk.specs.Walk.{free_in, free_to}
 use Rattle.walk.specs.Parts.{marks_of, Pinned}
 
-pub pinned-start : (n : ℕ) (y : Side) (l : List ℕ) → Pinned n y 0 l l
-pinned-start n y l = record { long = refl; done = λ m u. absurd (not-suc-le-zero u); rest = λ m u. refl }
+pub pinned_start : (n : ℕ) (y : Side) (l : List ℕ) → Pinned n y 0 l l
+pinned_start n y l = record { long = refl; done = λ m u. absurd (not-suc-le-zero u); rest = λ m u. refl }
 
-pub pinned-next : (n : ℕ) (y : Side) (i : ℕ) (old l : List ℕ) (b : Bool) (z : ℕ) → i < length old → b ≡ free_in (marks_of l) y i → z ≡ cond b n (get_or l i 0) → Pinned n y i old l →
+pub pinned_next : (n : ℕ) (y : Side) (i : ℕ) (old l : List ℕ) (b : Bool) (z : ℕ) → i < length old → b ≡ free_in (marks_of l) y i → z ≡ cond b n (get_or l i 0) → Pinned n y i old l →
     Pinned n y (i + 1) old (set l i z)
 unfolding pin
-pinned-next n y i old l b z u e f h = record {
+pinned_next n y i old l b z u e f h = record {
   long = length-set l i z ∙ h.long;
   done = λ m v. done m v (ℕ_discrete m i);
   rest = λ m v. get_or-set_other l i m z 0 (λ q. v (omega arith)) ∙ h.rest m (λ q. v (omega arith));

@@ -1,4 +1,4 @@
--- A round depends on marks and sides below the number of modules alone, takes a free module and leaves fewer free (`round-less`), so that there are at most f + 1 rounds (`walks-rounds`).
+-- A round depends on marks and sides below the number of modules alone, takes a free module and leaves fewer free (`round_less`), so that there are at most f + 1 rounds (`walks_rounds`).
 -- Assumes nothing.
 use Rattle.std.specs.Prelude.{◌≡◌, ℕ, suc, ◌+◌, ◌<◌, ◌≤◌, Bool, true, false, cond, not, ◌&&◌, ◌||◌, T, eqb, List, [], ◌∷◌, ◌++◌, length, take}
 use mathlib.Core.Path.{refl, sym, ap, ◌∙◌}
@@ -12,12 +12,12 @@ use lib.Seq.{take-suc}
 use lib.Dec.{eqb→eq, eqb_refl, not_T}
 use Rattle.line.specs.Card.{Net, Card, Side, outside, either, touches, crosses, price, all_pins, Near, area_to, Alike, remark, pin}
 use Rattle.line.specs.Flow.{only}
-use Rattle.line.proofs.Area.{area_to-same, count_less}
-use Rattle.book.proofs.Firsts.{lowest-some, lowest-same}
+use Rattle.line.proofs.Area.{area_to_same, count_less}
+use Rattle.book.proofs.Firsts.{lowest_some, lowest_same}
 use Rattle.line.proofs.Index.{net_at, no_net}
 use Rattle.line.proofs.Bools.{and_l, and_r}
-use Rattle.line.proofs.Price.{touches-same}
-use Rattle.line.proofs.Cheap.{Tightens, pin-to, pin-from, meter-tightens, maker-tightens, near-stays, near-one, cheapest-price}
+use Rattle.line.proofs.Price.{touches_same}
+use Rattle.line.proofs.Cheap.{Tightens, pin_to, pin_from, meter_tightens, maker_tightens, near_stays, near_one, cheapest_price}
 use Rattle.line.proofs.Duality.{Valid}
 use Rattle.book.specs.First.{or_else, lowest}
 use Rattle.gate.specs.declared.Verdict.{Verdict}
@@ -26,26 +26,26 @@ use Rattle.walk.specs.Walk.{Way, meter, maker, Turn, stops, takes, on_cut, free_
 
 -- ---- what agrees below n
 
-pub crosses-same : (s t : Side) (n : Net) → ((m : ℕ) → Memᴰ m n.pins → s m ≡ t m) → crosses s n ≡ crosses t n
+pub crosses_same : (s t : Side) (n : Net) → ((m : ℕ) → Memᴰ m n.pins → s m ≡ t m) → crosses s n ≡ crosses t n
 unfolding crosses
-crosses-same s t n f = rw (touches-same s t n.pins f, touches-same (outside s) (outside t) n.pins (λ m h. ap not (f m h)))
+crosses_same s t n f = rw (touches_same s t n.pins f, touches_same (outside s) (outside t) n.pins (λ m h. ap not (f m h)))
 
-pub on_cut-same : (ns : List Net) (s t : Side) → ((m : ℕ) → Memᴰ m (all_pins ns) → s m ≡ t m) → (m : ℕ) → on_cut ns s m ≡ on_cut ns t m
+pub on_cut_same : (ns : List Net) (s t : Side) → ((m : ℕ) → Memᴰ m (all_pins ns) → s m ≡ t m) → (m : ℕ) → on_cut ns s m ≡ on_cut ns t m
 unfolding on_cut all_pins
-on_cut-same [] s t f m = refl
-on_cut-same (n ∷ ns) s t f m =
-    rw (crosses-same s t n (λ i h. f i (Memᴰ.append_left (all_pins ns) h)), on_cut-same ns s t (λ i h. f i (Memᴰ.append_right n.pins h)) m)
+on_cut_same [] s t f m = refl
+on_cut_same (n ∷ ns) s t f m =
+    rw (crosses_same s t n (λ i h. f i (Memᴰ.append_left (all_pins ns) h)), on_cut_same ns s t (λ i h. f i (Memᴰ.append_right n.pins h)) m)
 
 -- one net more, as a loop goes
 pub on_cut-suc : (ns : List Net) (x : Side) (m e : ℕ) → e < length ns →
     on_cut (take (suc e) ns) x m ≡ (on_cut (take e ns) x m || (crosses x (net_at ns e) && touches (only m) (net_at ns e).pins))
 unfolding on_cut
-on_cut-suc ns x m e l = rw (take-suc ns e no_net) (at-end (take e ns))
+on_cut-suc ns x m e l = rw (take-suc ns e no_net) (at_end (take e ns))
   where
-    at-end : (ms : List Net) → on_cut (ms ++ (net_at ns e ∷ [])) x m ≡ (on_cut ms x m || (crosses x (net_at ns e) && touches (only m) (net_at ns e).pins))
-    at-end [] = or-false (crosses x (net_at ns e) && touches (only m) (net_at ns e).pins)
-    at-end (n ∷ ms) =
-        rw (at-end ms)
+    at_end : (ms : List Net) → on_cut (ms ++ (net_at ns e ∷ [])) x m ≡ (on_cut ms x m || (crosses x (net_at ns e) && touches (only m) (net_at ns e).pins))
+    at_end [] = or-false (crosses x (net_at ns e) && touches (only m) (net_at ns e).pins)
+    at_end (n ∷ ms) =
+        rw (at_end ms)
         (sym (or_assoc (crosses x n && touches (only m) n.pins) (on_cut ms x m) (crosses x (net_at ns e) && touches (only m) (net_at ns e).pins)))
 
 -- ---- the module taken
@@ -56,18 +56,18 @@ pub record Taken (c : Card) (k : ℕ → ℕ) (y : Side) (m : ℕ) : Type 0 wher
   pub chosen : T (y m)
   pub free : k m ≡ 0
 
-free-taken : (c : Card) (k : ℕ → ℕ) (y : Side) (m : ℕ) → m < c.modules → T (free_in k y m) → Taken c k y m
-free-taken c k y m l t = record { under = l; chosen = and_l (y m) (eqb (k m) 0) t; free = eqb→eq (k m) 0 (and_r (y m) (eqb (k m) 0) t) }
+free_taken : (c : Card) (k : ℕ → ℕ) (y : Side) (m : ℕ) → m < c.modules → T (free_in k y m) → Taken c k y m
+free_taken c k y m l t = record { under = l; chosen = and_l (y m) (eqb (k m) 0) t; free = eqb→eq (k m) 0 (and_r (y m) (eqb (k m) 0) t) }
 
-pub choice-taken : (c : Card) (k : ℕ → ℕ) (x y : Side) (m : ℕ) → choice c k x y ≡ At m → Taken c k y m
+pub choice_taken : (c : Card) (k : ℕ → ℕ) (x y : Side) (m : ℕ) → choice c k x y ≡ At m → Taken c k y m
 unfolding choice
-choice-taken c k x y m = go (lowest (λ m. free_in k y m && on_cut c.nets x m) c.modules) refl
+choice_taken c k x y m = go (lowest (λ m. free_in k y m && on_cut c.nets x m) c.modules) refl
   where
     go : (o : Found) → lowest (λ m. free_in k y m && on_cut c.nets x m) c.modules ≡ o → or_else o (lowest (free_in k y) c.modules) ≡ At m → Taken c k y m
-    go Nothing e h = let q = lowest-some (free_in k y) c.modules m h in free-taken c k y m q.under q.passes
+    go Nothing e h = let q = lowest_some (free_in k y) c.modules m h in free_taken c k y m q.under q.passes
     go (At i) e h =
-        let q = lowest-some (λ m. free_in k y m && on_cut c.nets x m) c.modules m (e ∙ h) in
-        free-taken c k y m q.under (and_l (free_in k y m) (on_cut c.nets x m) q.passes)
+        let q = lowest_some (λ m. free_in k y m && on_cut c.nets x m) c.modules m (e ∙ h) in
+        free_taken c k y m q.under (and_l (free_in k y m) (on_cut c.nets x m) q.passes)
 
 -- the side from which a way takes its module
 abbrev pub from : Way → Side → Side
@@ -75,26 +75,26 @@ from meter x = outside x
 from maker x = x
 
 module _ (c : Card) (area : ℕ → ℕ) (v : ℕ → Verdict) (k : ℕ → ℕ) (x : Side) where
-  pub turn-taken : (w : Way) (m : ℕ) → turn c area v k x ≡ takes w m → Taken c k (from w x) m
+  pub turn_taken : (w : Way) (m : ℕ) → turn c area v k x ≡ takes w m → Taken c k (from w x) m
   unfolding turn
-  turn-taken w m = go (v (area_to area x c.modules)) (choice c k x (outside x)) (choice c k x x) refl refl w
+  turn_taken w m = go (v (area_to area x c.modules)) (choice c k x (outside x)) (choice c k x x) refl refl w
     where
       clash : {w w' : Way} {m m' : ℕ} → takes w m ≡ takes w' m' → m ≡ m'
       clash e = cc
 
       go : (a : Verdict) (o i : Found) → choice c k x (outside x) ≡ o → choice c k x x ≡ i → (w : Way) → decide a o i ≡ takes w m → Taken c k (from w x) m
       go Below Nothing i p q w h = let z : ◌≡◌ {A = ℕ} 0 1 = cc in absurd (omega arith)
-      go Below (At n) i p q meter h = choice-taken c k x (outside x) m (p ∙ ap At (clash h))
+      go Below (At n) i p q meter h = choice_taken c k x (outside x) m (p ∙ ap At (clash h))
       go Below (At n) i p q maker h = let z : ◌≡◌ {A = ℕ} 0 1 = cc in absurd (omega arith)
       go Within o i p q w h = let z : ◌≡◌ {A = ℕ} 0 1 = cc in absurd (omega arith)
       go Above o Nothing p q w h = let z : ◌≡◌ {A = ℕ} 0 1 = cc in absurd (omega arith)
       go Above o (At n) p q meter h = let z : ◌≡◌ {A = ℕ} 0 1 = cc in absurd (omega arith)
-      go Above o (At n) p q maker h = choice-taken c k x x m (q ∙ ap At (clash h))
+      go Above o (At n) p q maker h = choice_taken c k x x m (q ∙ ap At (clash h))
 
   -- it stops only where the gate takes the area
-  pub turn-within : turn c area v k x ≡ stops → v (area_to area x c.modules) ≡ Within
+  pub turn_within : turn c area v k x ≡ stops → v (area_to area x c.modules) ≡ Within
   unfolding turn
-  turn-within = go (v (area_to area x c.modules)) (choice c k x (outside x)) (choice c k x x)
+  turn_within = go (v (area_to area x c.modules)) (choice c k x (outside x)) (choice c k x x)
     where
       go : (a : Verdict) (o i : Found) → decide a o i ≡ stops → a ≡ Within
       go Below Nothing i e = let z : ◌≡◌ {A = ℕ} 0 1 = cc in absurd (omega arith)
@@ -105,72 +105,72 @@ module _ (c : Card) (area : ℕ → ℕ) (v : ℕ → Verdict) (k : ℕ → ℕ)
 
 -- ---- the marks after
 
-pub pin-takes : (n : ℕ) (y : Side) (k : ℕ → ℕ) (m : ℕ) → T (y m) → k m ≡ 0 → pin n y k m ≡ n
+pub pin_takes : (n : ℕ) (y : Side) (k : ℕ → ℕ) (m : ℕ) → T (y m) → k m ≡ 0 → pin n y k m ≡ n
 unfolding pin
-pin-takes n y k m t z = go (y m) t
+pin_takes n y k m t z = go (y m) t
   where
     go : (b : Bool) → T b → cond (b && eqb (k m) 0) n (k m) ≡ n
     go true t = rw z
     go false t = absurd t
 
-pub pin-same : (n : ℕ) (s t : Side) (j k : ℕ → ℕ) (m : ℕ) → s m ≡ t m → j m ≡ k m → pin n s j m ≡ pin n t k m
+pub pin_same : (n : ℕ) (s t : Side) (j k : ℕ → ℕ) (m : ℕ) → s m ≡ t m → j m ≡ k m → pin n s j m ≡ pin n t k m
 unfolding pin
-pin-same n s t j k m p q = rw (p, q)
+pin_same n s t j k m p q = rw (p, q)
 
 or_self : (a : Bool) (m : ℕ) → T (a || eqb m m)
 or_self true m = tt
 or_self false m = eqb_refl m
 
 module _ (w : Way) (m : ℕ) (x : Side) (k : ℕ → ℕ) where
-  pub after-taken : k m ≡ 0 → after w m x k m ≡ number w
-  after-taken z = go w
+  pub after_taken : k m ≡ 0 → after w m x k m ≡ number w
+  after_taken z = go w
     where
       go : (w : Way) → after w m x k m ≡ number w
-      go meter = pin-takes 1 (either x (only m)) k m (or_self (x m) m) z
-      go maker = pin-takes 2 (either (outside x) (only m)) k m (or_self (not (x m)) m) z
+      go meter = pin_takes 1 (either x (only m)) k m (or_self (x m) m) z
+      go maker = pin_takes 2 (either (outside x) (only m)) k m (or_self (not (x m)) m) z
 
   -- nothing is set free
   pub after_free : (i : ℕ) → after w m x k i ≡ 0 → k i ≡ 0
   after_free i = go w
     where
       go : (w : Way) → after w m x k i ≡ 0 → k i ≡ 0
-      go meter e = pin-from (λ n. n ≡ 0) 1 (either x (only m)) k i e (λ z. omega arith)
-      go maker e = pin-from (λ n. n ≡ 0) 2 (either (outside x) (only m)) k i e (λ z. omega arith)
+      go meter e = pin_from (λ n. n ≡ 0) 1 (either x (only m)) k i e (λ z. omega arith)
+      go maker e = pin_from (λ n. n ≡ 0) 2 (either (outside x) (only m)) k i e (λ z. omega arith)
 
-  pub after-three : (i : ℕ) → k i ≤ 2 → after w m x k i ≤ 2
-  after-three i h = go w
+  pub after_three : (i : ℕ) → k i ≤ 2 → after w m x k i ≤ 2
+  after_three i h = go w
     where
       go : (w : Way) → after w m x k i ≤ 2
-      go meter = pin-to (λ n. n ≤ 2) 1 (either x (only m)) k i (λ _ _. omega arith) h
-      go maker = pin-to (λ n. n ≤ 2) 2 (either (outside x) (only m)) k i (λ _ _. omega arith) h
+      go meter = pin_to (λ n. n ≤ 2) 1 (either x (only m)) k i (λ _ _. omega arith) h
+      go maker = pin_to (λ n. n ≤ 2) 2 (either (outside x) (only m)) k i (λ _ _. omega arith) h
 
   -- meters and makers are only added
-  pub after-tightens : (c : Card) → Tightens (remark c k) k (after w m x k)
-  after-tightens c = go w
+  pub after_tightens : (c : Card) → Tightens (remark c k) k (after w m x k)
+  after_tightens c = go w
     where
       go : (w : Way) → Tightens (remark c k) k (after w m x k)
-      go meter = meter-tightens (remark c k) (either x (only m))
-      go maker = maker-tightens (remark c k) (either (outside x) (only m))
+      go meter = meter_tightens (remark c k) (either x (only m))
+      go maker = maker_tightens (remark c k) (either (outside x) (only m))
 
 pub after_same : (w : Way) (m n : ℕ) (x y : Side) (j k : ℕ → ℕ) → Alike n x y → Alike n j k → Alike n (after w m x j) (after w m y k)
-after_same meter m n x y j k p q i l = pin-same 1 (either x (only m)) (either y (only m)) j k i (rw (p i l)) (q i l)
-after_same maker m n x y j k p q i l = pin-same 2 (either (outside x) (only m)) (either (outside y) (only m)) j k i (rw (p i l)) (q i l)
+after_same meter m n x y j k p q i l = pin_same 1 (either x (only m)) (either y (only m)) j k i (rw (p i l)) (q i l)
+after_same maker m n x y j k p q i l = pin_same 2 (either (outside x) (only m)) (either (outside y) (only m)) j k i (rw (p i l)) (q i l)
 
-pub after-valid : (c : Card) (w : Way) (m : ℕ) (x : Side) (k : ℕ → ℕ) → Valid (remark c k) → Valid (remark c (after w m x k))
-after-valid c w m x k q = record { pins = q.pins; marks = λ i l. after-three w m x k i (q.marks i l) }
+pub after_valid : (c : Card) (w : Way) (m : ℕ) (x : Side) (k : ℕ → ℕ) → Valid (remark c k) → Valid (remark c (after w m x k))
+after_valid c w m x k q = record { pins = q.pins; marks = λ i l. after_three w m x k i (q.marks i l) }
 
 -- ---- the free modules
 
-pub free_to-same : (j k : ℕ → ℕ) (n : ℕ) → Alike n j k → free_to j n ≡ free_to k n
-free_to-same j k n e = area_to-same (λ m. 1) (free j) (free k) n (λ m l. rw (e m l))
+pub free_to_same : (j k : ℕ → ℕ) (n : ℕ) → Alike n j k → free_to j n ≡ free_to k n
+free_to_same j k n e = area_to_same (λ m. 1) (free j) (free k) n (λ m l. rw (e m l))
 
 -- a round that goes on leaves fewer free
-pub round-less : (c : Card) (area : ℕ → ℕ) (v : ℕ → Verdict) (k : ℕ → ℕ) (x : Side) (w : Way) (m : ℕ) → turn c area v k x ≡ takes w m →
+pub round_less : (c : Card) (area : ℕ → ℕ) (v : ℕ → Verdict) (k : ℕ → ℕ) (x : Side) (w : Way) (m : ℕ) → turn c area v k x ≡ takes w m →
     free_to (after w m x k) c.modules < free_to k c.modules
-round-less c area v k x w m e =
-    let q = turn-taken c area v k x w m e in
+round_less c area v k x w m e =
+    let q = turn_taken c area v k x w m e in
     count_less (free (after w m x k)) (free k) c.modules m (λ i t. rw (after_free w m x k i (eqb→eq (after w m x k i) 0 t)) tt) q.under (rw q.free tt)
-    (not_T (free (after w m x k) m) (λ t. some_number w (sym (after-taken w m x k q.free) ∙ eqb→eq (after w m x k m) 0 t)))
+    (not_T (free (after w m x k) m) (λ t. some_number w (sym (after_taken w m x k q.free) ∙ eqb→eq (after w m x k m) 0 t)))
   where
     some_number : (w : Way) → number w ≡ 0 → ⊥
     some_number meter e = omega arith
@@ -181,7 +181,7 @@ round-less c area v k x w m e =
 module _ (c : Card) (j k : ℕ → ℕ) (e : Alike c.modules j k) where
   pub near_same : (x : Side) → Near (remark c j) x → Near (remark c k) x
   near_same x p =
-      near-stays c j k (record { meters = λ m l h. sym (e m l) ∙ h; makers = λ m l h. sym (e m l) ∙ h }) x
+      near_stays c j k (record { meters = λ m l h. sym (e m l) ∙ h; makers = λ m l h. sym (e m l) ∙ h }) x
       (record { meters = λ m l h. p.cheapest.separates.meters m l (e m l ∙ h); makers = λ m l h. p.cheapest.separates.makers m l (e m l ∙ h) })
       p
 
@@ -193,31 +193,31 @@ pub record Meet (c : Card) (area : ℕ → ℕ) (j k : ℕ → ℕ) (x y : Side)
   pub inn : choice c j x x ≡ choice c k y y
 
 module _ (c : Card) (valid : Valid c) (area : ℕ → ℕ) (j k : ℕ → ℕ) (e : Alike c.modules j k) where
-  pub choice-same : (x y s t : Side) → Alike c.modules x y → Alike c.modules s t → choice c j x s ≡ choice c k y t
+  pub choice_same : (x y s t : Side) → Alike c.modules x y → Alike c.modules s t → choice c j x s ≡ choice c k y t
   unfolding choice
-  choice-same x y s t p q =
+  choice_same x y s t p q =
       rw (
-        lowest-same (λ m. free_in j s m && on_cut c.nets x m) (λ m. free_in k t m && on_cut c.nets y m) c.modules
-            (λ m l. rw (q m l, e m l, on_cut-same c.nets x y (λ i h. p i (valid.pins i h)) m)),
-        lowest-same (free_in j s) (free_in k t) c.modules (λ m l. rw (q m l, e m l)),
+        lowest_same (λ m. free_in j s m && on_cut c.nets x m) (λ m. free_in k t m && on_cut c.nets y m) c.modules
+            (λ m l. rw (q m l, e m l, on_cut_same c.nets x y (λ i h. p i (valid.pins i h)) m)),
+        lowest_same (free_in j s) (free_in k t) c.modules (λ m l. rw (q m l, e m l)),
       )
 
   pub meet : (x y : Side) → Near (remark c j) x → Near (remark c k) y → Meet c area j k x y
   meet x y p q =
       let n = near_same c j k e x p in
-      let a = near-one (remark c k) x y n q in
+      let a = near_one (remark c k) x y n q in
       record {
         side = a;
-        prices = cheapest-price (remark c k) x y n.cheapest q.cheapest;
-        areas = area_to-same area x y c.modules a;
-        out = choice-same x y (outside x) (outside y) a (λ m l. ap not (a m l));
-        inn = choice-same x y x y a a;
+        prices = cheapest_price (remark c k) x y n.cheapest q.cheapest;
+        areas = area_to_same area x y c.modules a;
+        out = choice_same x y (outside x) (outside y) a (λ m l. ap not (a m l));
+        inn = choice_same x y x y a a;
       }
 
 module _ (c : Card) (area : ℕ → ℕ) (j k : ℕ → ℕ) (x y : Side) (q : Meet c area j k x y) where
-  pub turn-same : (v : ℕ → Verdict) → turn c area v j x ≡ turn c area v k y
+  pub turn_same : (v : ℕ → Verdict) → turn c area v j x ≡ turn c area v k y
   unfolding turn
-  turn-same v = rw (q.areas, q.out, q.inn)
+  turn_same v = rw (q.areas, q.out, q.inn)
 
   pub row_same : (t : Turn) → row c area x t ≡ row c area y t
   row_same t = rw (q.prices, q.areas)
@@ -225,7 +225,7 @@ module _ (c : Card) (area : ℕ → ℕ) (j k : ℕ → ℕ) (x y : Side) (q : M
 -- ---- with f free modules there are at most f + 1 rounds
 
 module _ (c : Card) (area : ℕ → ℕ) (v : ℕ → Verdict) where
-  pub walks-rounds : {k : ℕ → ℕ} {rs : List Row} {o : Outcome} → Walks c area v k rs o → length rs ≤ free_to k c.modules + 1
-  walks-rounds (stop x p e) = omega arith
-  walks-rounds {k} (go x w m p e a) = omega (arith, walks-rounds a, round-less c area v k x w m e)
-  walks-rounds (end x p e) = omega arith
+  pub walks_rounds : {k : ℕ → ℕ} {rs : List Row} {o : Outcome} → Walks c area v k rs o → length rs ≤ free_to k c.modules + 1
+  walks_rounds (stop x p e) = omega arith
+  walks_rounds {k} (go x w m p e a) = omega (arith, walks_rounds a, round_less c area v k x w m e)
+  walks_rounds (end x p e) = omega arith

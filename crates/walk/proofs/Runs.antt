@@ -1,5 +1,5 @@
--- The rounds of the walk as the code's loop goes: it stands at its marks with its rows written (`going_start`, `going-again`), each round has room for its row and leaves fewer modules free
--- (`going-room`, `going_less`), and the last one makes a walk of the book (`going-stops`, `going-ends`). Assumes nothing.
+-- The rounds of the walk as the code's loop goes: it stands at its marks with its rows written (`going_start`, `going_again`), each round has room for its row and leaves fewer modules free
+-- (`going_room`, `going_less`), and the last one makes a walk of the book (`going_stops`, `going_ends`). Assumes nothing.
 use Rattle.std.specs.Prelude.{◌≡◌, ℕ, zero, suc, ◌+◌, ◌*◌, ◌<◌, ◌≤◌, Bool, true, cond, List, [], ◌∷◌, ◌++◌, length, get_or}
 use mathlib.Core.Path.{refl, sym, ap, ap₂, ◌∙◌, subst}
 use native.Mathlib.Nat.{le_refl}
@@ -8,15 +8,15 @@ use lib.ListN.{length-append}
 use lib.Seq.{length-paste}
 use borrow.Author.Tests.{eq-eqb, ne_eqb}
 use Rattle.line.specs.Card.{Alike, area_to, price}
-use Rattle.line.proofs.Area.{area_to-most}
+use Rattle.line.proofs.Area.{area_to_most}
 use Rattle.book.specs.Checks.{most_modules}
 use Rattle.book.specs.Format.{modules, area, mark}
 use Rattle.book.specs.Listed.{listed}
 use Rattle.book.specs.Sound.{Sound}
 use Rattle.book.specs.Cards.{card_of, nets_of}
-use Rattle.book.proofs.CardLaws.{card-valid}
-use Rattle.book.proofs.Elements.{length-listed, get_or-listed}
-use Rattle.book.proofs.Pasted.{paste-then, paste-front}
+use Rattle.book.proofs.CardLaws.{card_valid}
+use Rattle.book.proofs.Elements.{length_listed, get_or_listed}
+use Rattle.book.proofs.Pasted.{paste_then, paste_front}
 use Rattle.side.specs.Sides.{side_of, SpareClear}
 use Rattle.gate.specs.Gates.{band_says}
 use Rattle.gate.specs.declared.Band.{Band}
@@ -27,9 +27,9 @@ use Rattle.walk.specs.Call.{row_bytes, rows_bytes, over, room_for}
 use Rattle.walk.specs.Parts.{marks_of, over_at}
 use Rattle.walk.specs.Work.{Marked, Says, OneRound}
 use Rattle.walk.specs.Runs.{outcome_of, Ran}
-use Rattle.walk.proofs.Rounds.{free_to-same}
-use Rattle.walk.proofs.Loop.{Stands, start, walks-marks, round-stops, round-ends, round-goes, round-measure, stands-room}
-use Rattle.walk.proofs.Call.{rows-length, rows_more, row-length}
+use Rattle.walk.proofs.Rounds.{free_to_same}
+use Rattle.walk.proofs.Loop.{Stands, start, walks_marks, round_stops, round_ends, round_goes, round_measure, stands_room}
+use Rattle.walk.proofs.Call.{rows_length, rows_more, row-length}
 
 ones : (n : ℕ) → area_to (λ m. 1) (λ m. true) n ≡ n
 unfolding area_to
@@ -37,18 +37,18 @@ ones zero = refl
 ones (suc n) = omega (arith, ones n)
 
 -- the rows so far and one more
-row-after : (rs : List Row) (r : Row) (old : List ℕ) → 12 * length rs + 12 ≤ length old → over_at (12 * length rs) (row_bytes r) (over (rows_bytes rs) old) ≡ over (rows_bytes (rs ++ (r ∷ []))) old
-row-after rs r old h =
-    let e : 0 + length (rows_bytes rs) ≡ 12 * length rs = omega (arith, rows-length rs) in
-    ap₂ (λ (n : ℕ) (l : List ℕ). over_at n (row_bytes r) l) (sym e) (sym (paste-front (rows_bytes rs) old))
-    ∙ paste-then 0 (rows_bytes rs) (row_bytes r) old (omega (arith, rows-length rs)) ∙ paste-front (rows_bytes rs ++ row_bytes r) old ∙ ap (λ (l : List ℕ). over l old) (sym (rows_more rs r))
+row_after : (rs : List Row) (r : Row) (old : List ℕ) → 12 * length rs + 12 ≤ length old → over_at (12 * length rs) (row_bytes r) (over (rows_bytes rs) old) ≡ over (rows_bytes (rs ++ (r ∷ []))) old
+row_after rs r old h =
+    let e : 0 + length (rows_bytes rs) ≡ 12 * length rs = omega (arith, rows_length rs) in
+    ap₂ (λ (n : ℕ) (l : List ℕ). over_at n (row_bytes r) l) (sym e) (sym (paste_front (rows_bytes rs) old))
+    ∙ paste_then 0 (rows_bytes rs) (row_bytes r) old (omega (arith, rows_length rs)) ∙ paste_front (rows_bytes rs ++ row_bytes r) old ∙ ap (λ (l : List ℕ). over l old) (sym (rows_more rs r))
 
 -- the loaded marks are the book's
-pub loaded-alike : (s k : List ℕ) → k ≡ listed (mark s) (modules s) → Alike (modules s) (marks_of k) (mark s)
-loaded-alike s k e m l = ap (λ (k : List ℕ). get_or k m 0) e ∙ get_or-listed (mark s) (modules s) m 0 l
+pub loaded_alike : (s k : List ℕ) → k ≡ listed (mark s) (modules s) → Alike (modules s) (marks_of k) (mark s)
+loaded_alike s k e m l = ap (λ (k : List ℕ). get_or k m 0) e ∙ get_or_listed (mark s) (modules s) m 0 l
 
-pub loaded-marked : (s k : List ℕ) → Sound s → k ≡ listed (mark s) (modules s) → Marked s k
-loaded-marked s k h e = record { long = ap length e ∙ length-listed (mark s) (modules s); low = λ m l. subst (λ (n : ℕ). n ≤ 2) (sym (loaded-alike s k e m l)) (h.mark-low m l) }
+pub loaded_marked : (s k : List ℕ) → Sound s → k ≡ listed (mark s) (modules s) → Marked s k
+loaded_marked s k h e = record { long = ap length e ∙ length_listed (mark s) (modules s); low = λ m l. subst (λ (n : ℕ). n ≤ 2) (sym (loaded_alike s k e m l)) (h.mark_low m l) }
 
 -- the walk stands at the marks k after n rounds, and its rows are written
 pub record GoesOn (s : List ℕ) (v : ℕ → Verdict) (k₀ k : List ℕ) (n : ℕ) (old new : List ℕ) : Type 0 where
@@ -66,37 +66,37 @@ pub record Going (s : List ℕ) (b : Band) (k₀ k : List ℕ) (n : ℕ) (old ne
 module _ (s : List ℕ) (sound : Sound s) (b : Band) (k₀ : List ℕ) (old : List ℕ) where
   pub going_start : k₀ ≡ listed (mark s) (modules s) → Going s b k₀ k₀ 0 old old
   unfolding rows_bytes
-  going_start e = record { begins = e; marked = loaded-marked s k₀ sound e; long = refl; goes = λ v h. record { rounds = []; stands = start; count = refl; bytes = refl } }
+  going_start e = record { begins = e; marked = loaded_marked s k₀ sound e; long = refl; goes = λ v h. record { rounds = []; stands = start; count = refl; bytes = refl } }
 
   module _ (k : List ℕ) (n : ℕ) (new : List ℕ) (g : Going s b k₀ k n old new) where
     plain : GoesOn s (band_says b) k₀ k n old new
     plain = g.goes (band_says b) (λ a l. refl)
 
     spent : n + free_to (marks_of k) (modules s) ≤ free_to (mark s) (modules s)
-    spent = omega (arith, stands-room (card_of s) (area s) (band_says b) (marks_of k₀) plain.rounds (marks_of k) plain.stands, plain.count, free_to-same (marks_of k₀) (mark s) (modules s) (loaded-alike s k₀ g.begins))
+    spent = omega (arith, stands_room (card_of s) (area s) (band_says b) (marks_of k₀) plain.rounds (marks_of k) plain.stands, plain.count, free_to_same (marks_of k₀) (mark s) (modules s) (loaded_alike s k₀ g.begins))
 
     -- there is room for one more row
-    pub going-room : room_for s ≤ length old → 12 * n + 12 ≤ length new
-    going-room h = omega (arith, spent, g.long)
+    pub going_room : room_for s ≤ length old → 12 * n + 12 ≤ length new
+    going_room h = omega (arith, spent, g.long)
 
-    pub going-few : n ≤ most_modules
-    going-few = omega (arith, spent, area_to-most (λ m. 1) (free (mark s)) (modules s), ones (modules s), sound.few-modules)
+    pub going_few : n ≤ most_modules
+    going_few = omega (arith, spent, area_to_most (λ m. 1) (free (mark s)) (modules s), ones (modules s), sound.few_modules)
 
     module _ (x : List ℕ) (r : Row) (l : List ℕ) (o : OneRound s b k x r l) (room : room_for s ≤ length old) (new' : List ℕ) (put : new' ≡ over_at (12 * n) (row_bytes r) new) where
       -- with its row written
       bytes : (v : ℕ → Verdict) (h : Says b v) → new' ≡ over (rows_bytes ((g.goes v h).rounds ++ (r ∷ []))) old
       bytes v h =
           let q = g.goes v h in
-          put ∙ ap₂ (λ (i : ℕ) (l : List ℕ). over_at (12 * i) (row_bytes r) l) q.count q.bytes ∙ row-after q.rounds r old (omega (arith, going-room room, q.count, g.long))
+          put ∙ ap₂ (λ (i : ℕ) (l : List ℕ). over_at (12 * i) (row_bytes r) l) q.count q.bytes ∙ row_after q.rounds r old (omega (arith, going_room room, q.count, g.long))
 
-      pub going-again : (i : ℕ) → i ≡ n + 1 → ¬ (r.way ≡ 0) → ¬ (r.way ≡ 3) → Going s b k₀ l i old new'
-      going-again i e f t = record {
+      pub going_again : (i : ℕ) → i ≡ n + 1 → ¬ (r.way ≡ 0) → ¬ (r.way ≡ 3) → Going s b k₀ l i old new'
+      going_again i e f t = record {
         begins = g.begins;
         marked = o.marked;
-        long = ap length put ∙ length-paste new (12 * n) (row_bytes r) (length (row_bytes r)) (omega (arith, going-room room, row-length r)) (le_refl (length (row_bytes r))) ∙ g.long;
+        long = ap length put ∙ length-paste new (12 * n) (row_bytes r) (length (row_bytes r)) (omega (arith, going_room room, row-length r)) (le_refl (length (row_bytes r))) ∙ g.long;
         goes = λ v h. let q = g.goes v h in record {
           rounds = q.rounds ++ (r ∷ []);
-          stands = round-goes (card_of s) (card-valid s sound) (area s) v (marks_of k₀) q.rounds (marks_of k) q.stands (side_of x) r (marks_of l) (o.round v h) f t;
+          stands = round_goes (card_of s) (card_valid s sound) (area s) v (marks_of k₀) q.rounds (marks_of k) q.stands (side_of x) r (marks_of l) (o.round v h) f t;
           count = omega (arith, e, q.count, length-append q.rounds (r ∷ []));
           bytes = bytes v h;
         };
@@ -104,29 +104,29 @@ module _ (s : List ℕ) (sound : Sound s) (b : Band) (k₀ : List ℕ) (old : Li
 
       pub going_less : ¬ (r.way ≡ 0) → ¬ (r.way ≡ 3) → free_to (marks_of l) (modules s) < free_to (marks_of k) (modules s)
       going_less f t =
-          round-measure (card_of s) (card-valid s sound) (area s) (band_says b) (marks_of k₀) plain.rounds (marks_of k) plain.stands (side_of x) r (marks_of l) (o.round (band_says b) (λ a l. refl)) f t
+          round_measure (card_of s) (card_valid s sound) (area s) (band_says b) (marks_of k₀) plain.rounds (marks_of k) plain.stands (side_of x) r (marks_of l) (o.round (band_says b) (λ a l. refl)) f t
 
       ended : (w : Standing) → w.row ≡ r → w.x ≡ x → w.rounds ≡ n + 1 →
           ((v : ℕ → Verdict) (h : Says b v) → Walks (card_of s) (area s) v (marks_of k₀) ((g.goes v h).rounds ++ (r ∷ [])) (outcome_of w)) → Ran s b old new' w
       ended w e f i a v h = record {
         rounds = (g.goes v h).rounds ++ (r ∷ []);
-        walks = walks-marks (card_of s) (card-valid s sound) (area s) v (a v h) (mark s) (loaded-alike s k₀ g.begins);
+        walks = walks_marks (card_of s) (card_valid s sound) (area s) v (a v h) (mark s) (loaded_alike s k₀ g.begins);
         bytes = bytes v h;
         count = omega (arith, i, (g.goes v h).count, length-append (g.goes v h).rounds (r ∷ []));
         price = ap (λ (r : Row). r.price) (e ∙ (o.round v h).written) ∙ ap (λ (x : List ℕ). price (nets_of s) (side_of x)) (sym f);
         spare = subst (λ (x : List ℕ). SpareClear x (modules s)) (sym f) o.spare;
       }
 
-      pub going-stops : (w : Standing) → w.row ≡ r → w.x ≡ x → w.rounds ≡ n + 1 → r.way ≡ 0 → Ran s b old new' w
-      going-stops w e f i z = ended w e f i (λ v h.
+      pub going_stops : (w : Standing) → w.row ≡ r → w.x ≡ x → w.rounds ≡ n + 1 → r.way ≡ 0 → Ran s b old new' w
+      going_stops w e f i z = ended w e f i (λ v h.
           let q = g.goes v h in
           let t : outcome_of w ≡ found (side_of x) = ap (λ (d : Bool). cond d (found (side_of w.x)) none_left) (eq-eqb w.row.way 0 (ap (λ (r : Row). r.way) e ∙ z)) ∙ ap (λ (x : List ℕ). found (side_of x)) f in
           subst (Walks (card_of s) (area s) v (marks_of k₀) (q.rounds ++ (r ∷ []))) (sym t)
-          (round-stops (card_of s) (card-valid s sound) (area s) v (marks_of k₀) q.rounds (marks_of k) q.stands (side_of x) r (marks_of l) (o.round v h) z))
+          (round_stops (card_of s) (card_valid s sound) (area s) v (marks_of k₀) q.rounds (marks_of k) q.stands (side_of x) r (marks_of l) (o.round v h) z))
 
-      pub going-ends : (w : Standing) → w.row ≡ r → w.x ≡ x → w.rounds ≡ n + 1 → r.way ≡ 3 → Ran s b old new' w
-      going-ends w e f i z = ended w e f i (λ v h.
+      pub going_ends : (w : Standing) → w.row ≡ r → w.x ≡ x → w.rounds ≡ n + 1 → r.way ≡ 3 → Ran s b old new' w
+      going_ends w e f i z = ended w e f i (λ v h.
           let q = g.goes v h in
           let t : outcome_of w ≡ none_left = ap (λ (d : Bool). cond d (found (side_of w.x)) none_left) (ne_eqb w.row.way 0 (λ y. omega (arith, ap (λ (r : Row). r.way) e, z, y))) in
           subst (Walks (card_of s) (area s) v (marks_of k₀) (q.rounds ++ (r ∷ []))) (sym t)
-          (round-ends (card_of s) (card-valid s sound) (area s) v (marks_of k₀) q.rounds (marks_of k) q.stands (side_of x) r (marks_of l) (o.round v h) z))
+          (round_ends (card_of s) (card_valid s sound) (area s) v (marks_of k₀) q.rounds (marks_of k) q.stands (side_of x) r (marks_of l) (o.round v h) z))

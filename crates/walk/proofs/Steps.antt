@@ -5,73 +5,73 @@ use native.Mathlib.Omega.{arith}
 use lib.Seq.{take_at}
 use Rattle.line.specs.Card.{Side, Alike, either, price}
 use Rattle.line.specs.Flow.{only}
-use Rattle.line.proofs.Below.{near-alike}
+use Rattle.line.proofs.Below.{near_alike}
 use Rattle.book.specs.Checks.{most_modules}
 use Rattle.book.specs.First.{or_else, lowest}
 use Rattle.book.specs.Format.{modules, nets, pins, weight, pin}
 use Rattle.book.specs.Sound.{Sound}
 use Rattle.book.specs.Cards as book
 use Rattle.book.specs.declared.Found.TheVariants.{At, Nothing}
-use Rattle.book.proofs.Firsts.{lowest-same}
-use Rattle.book.proofs.Elements.{length-listed}
+use Rattle.book.proofs.Firsts.{lowest_same}
+use Rattle.book.proofs.Elements.{length_listed}
 use Rattle.side.specs.Sides as sides
 use Rattle.side.specs.Prices.{most_area}
 use Rattle.flow.specs.Cards.{card_of, side_of, Laid}
 use Rattle.flow.specs.Raise.{Raised}
-use Rattle.flow.proofs.CardLaws.{card-valid}
+use Rattle.flow.proofs.CardLaws.{card_valid}
 use Rattle.gate.specs.Gates.{band_says}
 use Rattle.gate.specs.declared.Band.{Band}
 use Rattle.gate.specs.declared.Verdict.{Verdict}
 use Rattle.gate.specs.declared.Verdict.TheVariants.{Below, Within, Above}
 use Rattle.split.specs.Writes.{Written}
-use Rattle.split.proofs.SameCard.{near-slices, slices-laid}
+use Rattle.split.proofs.SameCard.{near_slices, slices_laid}
 use Rattle.walk.specs.Walk.{Turn, stops, takes, ends, Row, number, on_cut, free_in, choice, taking, turn, taken_of, way_of, after, after_turn}
 use Rattle.walk.specs.Parts.{side_from, marks_of, free_in_row, choice_in, CutRow, Pinned}
 use Rattle.walk.specs.Work.{Ground, NearRow, Loaded, Marked, way_from, taking_from, Turned, Says, turn_of, Stepped, OneRound}
-use Rattle.walk.proofs.Rounds.{choice-taken, after-three}
+use Rattle.walk.proofs.Rounds.{choice_taken, after_three}
 
 -- ---- the near side
 
-pub near-row : (fs ms ws mk : List ℕ) → Laid fs ms ws mk → (sm how x₀ x : List ℕ) (fl : List ℤ) → length how ≡ length mk → Raised (card_of fs ms ws mk) ms sm fl (side_of how) →
+pub near_row : (fs ms ws mk : List ℕ) → Laid fs ms ws mk → (sm how x₀ x : List ℕ) (fl : List ℤ) → length how ≡ length mk → Raised (card_of fs ms ws mk) ms sm fl (side_of how) →
     Written how true (length how) x₀ x → NearRow (card_of fs ms ws mk) x₀ x
 unfolding card_of
-near-row fs ms ws mk laid sm how x₀ x fl e raised w =
+near_row fs ms ws mk laid sm how x₀ x fl e raised w =
     let a : Alike (length mk) (side_of how) (sides.side_of x) = λ m l. sym (w.side m (omega (arith, e))) in
     record {
       long = w.long;
-      near = near-alike (card_of fs ms ws mk) (card-valid fs ms ws mk laid) (side_of how) (sides.side_of x) a raised.near;
+      near = near_alike (card_of fs ms ws mk) (card_valid fs ms ws mk laid) (side_of how) (sides.side_of x) a raised.near;
       spare = subst (λ (n : ℕ). sides.SpareClear x n) e w.spare;
     }
 
 -- ---- the module taken
 
-pub choice-row : (s k : List ℕ) (x y : Side) (old cut : List ℕ) → length k ≡ modules s → CutRow s x old cut → choice_in k y cut ≡ choice (book.card_of s) (marks_of k) x y
+pub choice_row : (s k : List ℕ) (x y : Side) (old cut : List ℕ) → length k ≡ modules s → CutRow s x old cut → choice_in k y cut ≡ choice (book.card_of s) (marks_of k) x y
 unfolding choice
-choice-row s k x y old cut e c =
+choice_row s k x y old cut e c =
     ap₂ or_else
     (ap (lowest (free_in_row k y cut)) e
-    ∙ lowest-same (free_in_row k y cut) (λ m. free_in (marks_of k) y m && on_cut (book.nets_of s) x m) (modules s) (λ m l. ap (λ (b : Bool). free_in (marks_of k) y m && b) (c.cut m)))
+    ∙ lowest_same (free_in_row k y cut) (λ m. free_in (marks_of k) y m && on_cut (book.nets_of s) x m) (modules s) (λ m l. ap (λ (b : Bool). free_in (marks_of k) y m && b) (c.cut m)))
     (ap (lowest (free_in (marks_of k) y)) e)
 
 -- ---- the marks after
 
-way-marks : (b : Bool) (s k l : List ℕ) (x : Side) (m : ℕ) → length k ≡ modules s → Pinned (number (way_from b)) (either (side_from b x) (only m)) (length k) k l →
+way_marks : (b : Bool) (s k l : List ℕ) (x : Side) (m : ℕ) → length k ≡ modules s → Pinned (number (way_from b)) (either (side_from b x) (only m)) (length k) k l →
     Alike (modules s) (after (way_from b) m x (marks_of k)) (marks_of l)
-way-marks true s k l x m e p i u = sym (p.done i (omega (arith, e)))
-way-marks false s k l x m e p i u = sym (p.done i (omega (arith, e)))
+way_marks true s k l x m e p i u = sym (p.done i (omega (arith, e)))
+way_marks false s k l x m e p i u = sym (p.done i (omega (arith, e)))
 
 module _ (s k : List ℕ) (x : Side) (b : Bool) (marked : Marked s k) (price area : ℕ) where
-  pub takes-turned : (l : List ℕ) (m to : ℕ) (r : Row) → choice (book.card_of s) (marks_of k) x (side_from (not b) x) ≡ At m → to ≡ number (way_from b) →
+  pub takes_turned : (l : List ℕ) (m to : ℕ) (r : Row) → choice (book.card_of s) (marks_of k) x (side_from (not b) x) ≡ At m → to ≡ number (way_from b) →
       Pinned to (either (side_from b x) (only m)) (length k) k l → r ≡ record { price = price; area = area; taken = m; way = to } →
       Turned s k x price area (taking_from s (marks_of k) x b) r l
-  takes-turned l m to r e f p q =
+  takes_turned l m to r e f p q =
       let t : taking_from s (marks_of k) x b ≡ takes (way_from b) m = ap (taking (way_from b)) e in
-      let a : Alike (modules s) (after (way_from b) m x (marks_of k)) (marks_of l) = way-marks b s k l x m marked.long (subst (λ (n : ℕ). Pinned n (either (side_from b x) (only m)) (length k) k l) f p) in
+      let a : Alike (modules s) (after (way_from b) m x (marks_of k)) (marks_of l) = way_marks b s k l x m marked.long (subst (λ (n : ℕ). Pinned n (either (side_from b x) (only m)) (length k) k l) f p) in
       record {
         row = q ∙ ap (λ (n : ℕ). record { price = price; area = area; taken = m; way = n }) f
             ∙ ap (λ (t : Turn). record { price = price; area = area; taken = taken_of t; way = way_of t }) (sym t);
         marks = subst (λ (t : Turn). Alike (modules s) (after_turn t x (marks_of k)) (marks_of l)) (sym t) a;
-        marked = record { long = p.long ∙ marked.long; low = λ i u. subst (λ (n : ℕ). n ≤ 2) (a i u) (after-three (way_from b) m x (marks_of k) i (marked.low i u)) };
+        marked = record { long = p.long ∙ marked.long; low = λ i u. subst (λ (n : ℕ). n ≤ 2) (a i u) (after_three (way_from b) m x (marks_of k) i (marked.low i u)) };
       }
 
   pub ends_turned : (r : Row) → choice (book.card_of s) (marks_of k) x (side_from (not b) x) ≡ Nothing → r ≡ record { price = price; area = area; taken = 65535; way = 3 } →
@@ -84,8 +84,8 @@ module _ (s k : List ℕ) (x : Side) (b : Bool) (marked : Marked s k) (price are
         marked = marked;
       }
 
-pub taken-small : (s : List ℕ) → Sound s → (k : List ℕ) (x y : Side) (m : ℕ) → choice (book.card_of s) (marks_of k) x y ≡ At m → m < most_modules
-taken-small s h k x y m e = omega (arith, (choice-taken (book.card_of s) (marks_of k) x y m e).under, h.few-modules)
+pub taken_small : (s : List ℕ) → Sound s → (k : List ℕ) (x y : Side) (m : ℕ) → choice (book.card_of s) (marks_of k) x y ≡ At m → m < most_modules
+taken_small s h k x y m e = omega (arith, (choice_taken (book.card_of s) (marks_of k) x y m e).under, h.few_modules)
 
 -- ---- what the band says
 
@@ -100,17 +100,17 @@ module _ (s k l : List ℕ) (x : Side) (band : Band) (p a : ℕ) (r : Row) (w : 
   stepped : (t : Turn) → Turned s k x p a t r l → ((v : ℕ → Verdict) → Says band v → t ≡ turn_of s v k x) → Stepped s band k x r l
   stepped t q g v h = subst (λ (t : Turn). Turned s k x (price (book.nets_of s) x) (book.area_of s x) t r l) (g v h) (carried t q)
 
-  pub step-below : w ≡ Below → Turned s k x p a (taking_from s (marks_of k) x true) r l → Stepped s band k x r l
+  pub step_below : w ≡ Below → Turned s k x p a (taking_from s (marks_of k) x true) r l → Stepped s band k x r l
   unfolding turn
-  step-below z q = stepped (taking_from s (marks_of k) x true) q (λ v h. let u : v (book.area_of s x) ≡ Below = sym (says v h) ∙ z in rw u)
+  step_below z q = stepped (taking_from s (marks_of k) x true) q (λ v h. let u : v (book.area_of s x) ≡ Below = sym (says v h) ∙ z in rw u)
 
-  pub step-above : w ≡ Above → Turned s k x p a (taking_from s (marks_of k) x false) r l → Stepped s band k x r l
+  pub step_above : w ≡ Above → Turned s k x p a (taking_from s (marks_of k) x false) r l → Stepped s band k x r l
   unfolding turn
-  step-above z q = stepped (taking_from s (marks_of k) x false) q (λ v h. let u : v (book.area_of s x) ≡ Above = sym (says v h) ∙ z in rw u)
+  step_above z q = stepped (taking_from s (marks_of k) x false) q (λ v h. let u : v (book.area_of s x) ≡ Above = sym (says v h) ∙ z in rw u)
 
-  pub step-within : w ≡ Within → Marked s l → l ≡ k → r ≡ record { price = p; area = a; taken = 65535; way = 0 } → Stepped s band k x r l
+  pub step_within : w ≡ Within → Marked s l → l ≡ k → r ≡ record { price = p; area = a; taken = 65535; way = 0 } → Stepped s band k x r l
   unfolding turn
-  step-within z m i q =
+  step_within z m i q =
       stepped stops (record { row = q; marks = λ j u. ap (λ (l : List ℕ). marks_of l j) (sym i); marked = m }) (λ v h. let u : v (book.area_of s x) ≡ Within = sym (says v h) ∙ z in rw u)
 
 -- ---- the round
@@ -121,22 +121,22 @@ module _ (s fs ms ws nt at pl mk : List ℕ) (g : Loaded s fs ms ws nt at pl) (m
 
   laid : Laid fs ms ws mk
   laid =
-      rw (g.firsts, g.mods, g.weights) (slices-laid s g.sound mk (marks_of mk) marked.long alike marked.low)
+      rw (g.firsts, g.mods, g.weights) (slices_laid s g.sound mk (marks_of mk) marked.long alike marked.low)
 
   pub ground : Ground fs ms ws nt at pl mk
   ground = record {
     laid = laid;
     tables = rw marked.long g.tables;
-    few-modules = omega (arith, marked.long, g.sound.few-modules);
-    few-nets = omega (arith, ap length g.weights ∙ length-listed (weight s) (nets s), g.sound.few-nets);
-    few-pins = omega (arith, ap length g.mods ∙ length-listed (pin s) (pins s), g.sound.few-pins);
+    few_modules = omega (arith, marked.long, g.sound.few_modules);
+    few_nets = omega (arith, ap length g.weights ∙ length_listed (weight s) (nets s), g.sound.few_nets);
+    few_pins = omega (arith, ap length g.mods ∙ length_listed (pin s) (pins s), g.sound.few_pins);
   }
 
-  pub one-round : (band : Band) (x₀ x : List ℕ) (r : Row) (l : List ℕ) → NearRow (card_of fs ms ws mk) x₀ x → Stepped s band mk (sides.side_of x) r l → Marked s l → OneRound s band mk x r l
+  pub one_round : (band : Band) (x₀ x : List ℕ) (r : Row) (l : List ℕ) → NearRow (card_of fs ms ws mk) x₀ x → Stepped s band mk (sides.side_of x) r l → Marked s l → OneRound s band mk x r l
   unfolding card_of
-  one-round band x₀ x r l n t m = record {
+  one_round band x₀ x r l n t m = record {
     round = λ v h. let q = t v h in record {
-      near = near-slices s g.sound mk (marks_of mk) marked.long alike (sides.side_of x) (rw (← g.firsts, ← g.mods, ← g.weights) n.near);
+      near = near_slices s g.sound mk (marks_of mk) marked.long alike (sides.side_of x) (rw (← g.firsts, ← g.mods, ← g.weights) n.near);
       written = q.row;
       marks = q.marks;
     };
@@ -145,7 +145,7 @@ module _ (s fs ms ws nt at pl mk : List ℕ) (g : Loaded s fs ms ws nt at pl) (m
   }
 
 -- the marks of the book's modules were lent, out of more
-pub round-lent : (s : List ℕ) (band : Band) (n : ℕ) (k x : List ℕ) (r : Row) (l rest : List ℕ) → n ≡ modules s → OneRound s band (take n k) x r l →
+pub round_lent : (s : List ℕ) (band : Band) (n : ℕ) (k x : List ℕ) (r : Row) (l rest : List ℕ) → n ≡ modules s → OneRound s band (take n k) x r l →
     OneRound s band (take (modules s) k) x r (take (modules s) (l ++ rest))
-round-lent s band n k x r l rest e o =
+round_lent s band n k x r l rest e o =
     subst (OneRound s band (take (modules s) k) x r) (sym (take_at l rest (modules s) o.marked.long)) (subst (λ (n : ℕ). OneRound s band (take n k) x r l) e o)

@@ -1,10 +1,10 @@
--- From the walk as it ended to what the call leaves (`wrote`), by way of its checks (`bad-gate`, `short-buffer`, `passed`, `read-refuses`, `read-good`). Assumes nothing.
+-- From the walk as it ended to what the call leaves (`wrote`), by way of its checks (`bad_gate`, `short_buffer`, `passed`, `read_refuses`, `read_good`). Assumes nothing.
 use Rattle.std.specs.Prelude.{◌≡◌, ℕ, ◌≤◌, Bool, true, false, cond, eqb, ltb, List, length}
 use mathlib.Core.Path.{ap, ap₂, ◌∙◌}
 use native.Mathlib.Omega.{arith}
 use borrow.Author.Tests.{ltb-false}
 use Rattle.line.specs.Card.{whole_area, price}
-use Rattle.line.proofs.Bools.{or-none}
+use Rattle.line.proofs.Bools.{or_none}
 use Rattle.book.specs.Checks.{read_of}
 use Rattle.book.specs.Format.{modules, area}
 use Rattle.book.specs.Cards.{card_of, nets_of}
@@ -49,25 +49,25 @@ wrote s g t b side rows side' rows' w r e f ran fin =
     record { rounds = q.rounds; outcome = outcome_of w; walks = q.walks; left = λ i. record { answer = n i; side = fin.side i; rows = q.bytes i } }
 
 module _ (s : List ℕ) (g : Gate) (side rows : List ℕ) (a : Left) where
-  pub bad-gate : good_gate g ≡ false → a ≡ left_by (Refused refusal.Gate) side rows → Comes (checked_sound s g side rows) s g side rows a
-  bad-gate e h = rw e h
+  pub bad_gate : good_gate g ≡ false → a ≡ left_by (Refused refusal.Gate) side rows → Comes (checked_sound s g side rows) s g side rows a
+  bad_gate e h = rw e h
 
-  pub short-buffer : good_gate g ≡ true → too_short s side rows ≡ true → a ≡ left_by (Refused refusal.Buffer) side rows → Comes (checked_sound s g side rows) s g side rows a
-  short-buffer e f h = rw (e, f) h
+  pub short_buffer : good_gate g ≡ true → too_short s side rows ≡ true → a ≡ left_by (Refused refusal.Buffer) side rows → Comes (checked_sound s g side rows) s g side rows a
+  short_buffer e f h = rw (e, f) h
 
   pub passed : good_gate g ≡ true → too_short s side rows ≡ false → Written s g side rows a → Comes (checked_sound s g side rows) s g side rows a
   passed e f h = rw (e, f) h
 
-  pub read-good : (b : Book) → read_of s ≡ Good b → Comes (checked_sound s g side rows) s g side rows a → Walked s g side rows a
+  pub read_good : (b : Book) → read_of s ≡ Good b → Comes (checked_sound s g side rows) s g side rows a → Walked s g side rows a
   unfolding checked_of
-  read-good b e h = rw e h
+  read_good b e h = rw e h
 
-  pub read-refuses : (why : Refusal) → read_of s ≡ reading.Refused why → a ≡ left_by (Refused why) side rows → Walked s g side rows a
+  pub read_refuses : (why : Refusal) → read_of s ≡ reading.Refused why → a ≡ left_by (Refused why) side rows → Walked s g side rows a
   unfolding checked_of
-  read-refuses why e h = rw e h
+  read_refuses why e h = rw e h
 
-pub long-enough : (s side rows : List ℕ) → Sound s → too_short s side rows ≡ false → Lent s side × (room_for s ≤ length rows)
+pub long_enough : (s side rows : List ℕ) → Sound s → too_short s side rows ≡ false → Lent s side × (room_for s ≤ length rows)
 unfolding too_short
-long-enough s side rows h e =
-    let k = or-none (ltb (length side) (bytes_for (modules s))) (ltb (length rows) (room_for s)) e in
+long_enough s side rows h e =
+    let k = or_none (ltb (length side) (bytes_for (modules s))) (ltb (length rows) (room_for s)) e in
     (record { sound = h; enough = ltb-false (length side) (bytes_for (modules s)) k.0 }, ltb-false (length rows) (room_for s) k.1)

@@ -20,9 +20,9 @@ use Rattle.walk.specs.Parts.{side_from, marks_of}
 pub record Ground (fs ms ws nt at pl mk : List ℕ) : Type 0 where
   pub laid : Laid fs ms ws mk
   pub tables : Tables fs ms ws nt at pl (length mk)
-  pub few-modules : length mk ≤ most_modules
-  pub few-nets : length ws ≤ most_nets
-  pub few-pins : length ms ≤ most_pins
+  pub few_modules : length mk ≤ most_modules
+  pub few_nets : length ws ≤ most_nets
+  pub few_pins : length ms ≤ most_pins
 
 -- The near side as a row of bits.
 pub record NearRow (c : Card) (old new : List ℕ) : Type 0 where
@@ -80,6 +80,6 @@ pub record Rooms (s fs ms ws nt at pl : List ℕ) : Type 0 where
   pub firsts : length fs ≡ nets s + 1
   pub mods : length ms ≡ pins s
   pub weights : length ws ≡ nets s
-  pub nets-of : length nt ≡ pins s
+  pub nets_of : length nt ≡ pins s
   pub starts : length at ≡ modules s + 1
-  pub pins-of : length pl ≡ pins s
+  pub pins_of : length pl ≡ pins s

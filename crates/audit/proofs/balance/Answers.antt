@@ -3,13 +3,13 @@ use mathlib.Core.Path.{refl, sym, ap₂, ◌∙◌}
 use Rattle.line.specs.Flow.{sent, taken}
 use Rattle.audit.specs.Rules.{balance_of}
 use Rattle.audit.specs.declared.Ruled.TheVariants.{Fair}
-use Rattle.audit.proofs.Tallied.{fresh-empty, tally-small, tally-uneven, tally-meters}
+use Rattle.audit.proofs.Tallied.{fresh_empty, tally_small, tally_uneven, tally_meters}
 use Rattle.audit.proofs.balance.Goals as goal
 
 pub tally-requires : goal.tally-requires
 tally-requires c =
     let p = c.requires in
-    (p, fresh-empty _ p.sound _ tt refl, fresh-empty _ p.sound _ tt refl)
+    (p, fresh_empty _ p.sound _ tt refl, fresh_empty _ p.sound _ tt refl)
 
 pub uneven_module-requires : goal.uneven_module-requires
 uneven_module-requires c =
@@ -20,22 +20,22 @@ pub returns-in-At : goal.returns-in-At
 unfolding balance_of
 returns-in-At c =
     let t = c.tally.ensures in
-    rw (sym (tally-uneven _ c.requires.sound _ _ _ t.0 t.1) ∙ sym c.uneven_module.ensures ∙ c.in-At.is)
+    rw (sym (tally_uneven _ c.requires.sound _ _ _ t.0 t.1) ∙ sym c.uneven_module.ensures ∙ c.in-At.is)
 
 pub meter_sum-requires : goal.meter_sum-requires
 meter_sum-requires c =
     let h = c.requires.sound in
-    (h, tally-small _ h _ sent _ c.tally.ensures.0)
+    (h, tally_small _ h _ sent _ c.tally.ensures.0)
 
 pub meter_sum-requires-2 : goal.meter_sum-requires-2
 meter_sum-requires-2 c =
     let h = c.requires.sound in
-    (h, tally-small _ h _ taken _ c.tally.ensures.1)
+    (h, tally_small _ h _ taken _ c.tally.ensures.1)
 
 pub returns : goal.returns
 unfolding balance_of
 returns c =
     let h = c.requires.sound in
     let t = c.tally.ensures in
-    rw (sym (tally-uneven _ h _ _ _ t.0 t.1) ∙ sym c.uneven_module.ensures ∙ c.in_default.is)
-    (ap₂ Fair (c.meter_sum.ensures ∙ tally-meters _ h _ sent _ t.0) (c.meter_sum-2.ensures ∙ tally-meters _ h _ taken _ t.1))
+    rw (sym (tally_uneven _ h _ _ _ t.0 t.1) ∙ sym c.uneven_module.ensures ∙ c.in_default.is)
+    (ap₂ Fair (c.meter_sum.ensures ∙ tally_meters _ h _ sent _ t.0) (c.meter_sum-2.ensures ∙ tally_meters _ h _ taken _ t.1))

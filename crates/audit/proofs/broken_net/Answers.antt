@@ -2,7 +2,7 @@
 use mathlib.Core.Path.{refl, sym, ◌∙◌}
 use native.Mathlib.Omega.{arith}
 use Rattle.book.proofs.CardLaws.{first_pin-suc}
-use Rattle.book.proofs.Firsts.{lowest-more, lowest-found, lowest-ended}
+use Rattle.book.proofs.Firsts.{lowest_more, lowest_found, lowest_ended}
 use Rattle.book.specs.Format.{first_pin}
 use Rattle.book.specs.First.{first, lowest}
 use Rattle.audit.specs.Rules.{check11}
@@ -14,16 +14,16 @@ loop-n-init c = (omega arith, refl, refl, omega arith)
 
 pub returns-then-net_breaks : goal.returns-then-net_breaks
 unfolding check11
-returns-then-net_breaks c = sym (lowest-found _ c.loop-n.n _ c.loop-n.invariant.1 (sym c.net_breaks.ensures ∙ c.if-net_breaks.true) (omega arith))
+returns-then-net_breaks c = sym (lowest_found _ c.loop-n.n _ c.loop-n.invariant.1 (sym c.net_breaks.ensures ∙ c.if-net_breaks.true) (omega arith))
 
 pub loop-n-preserved : goal.loop-n-preserved
 loop-n-preserved c = (
   omega arith,
-  lowest-more _ c.loop-n.n c.loop-n.invariant.1 (sym c.net_breaks.ensures ∙ c.if-net_breaks.false),
+  lowest_more _ c.loop-n.n c.loop-n.invariant.1 (sym c.net_breaks.ensures ∙ c.if-net_breaks.false),
   omega (arith, first_pin-suc c.args.book.now c.loop-n.n),
   omega arith,
 )
 
 pub returns : goal.returns
 unfolding check11
-returns c = sym (lowest-ended _ c.loop-n.n _ c.loop-n.invariant.1 (omega arith))
+returns c = sym (lowest_ended _ c.loop-n.n _ c.loop-n.invariant.1 (omega arith))

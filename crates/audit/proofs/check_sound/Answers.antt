@@ -4,7 +4,7 @@ use mathlib.Core.Path.{◌≡◌, sym, ap, ap₂, ◌∙◌}
 use lib.ListN.{length}
 use lib.Dec.{ltb}
 use borrow.Author.Tests.{ltb-false}
-use Rattle.line.proofs.Bools.{or-none}
+use Rattle.line.proofs.Bools.{or_none}
 use Rattle.side.specs.Given.{is_short}
 use Rattle.audit.specs.Checker.{is_short_flow, checked_sound}
 use Rattle.audit.proofs.check_sound.Goals as goal
@@ -19,7 +19,7 @@ tested c = ap₂ (λ (p q : Bool). p || q) (ap (ltb (length c.args.flow.now)) c.
 -- neither is
 long : (c : Else-flow-pins) → (ltb (length c.args.flow.now) c.pins.result || c.is_short.result) ≡ (is_short_flow c.args.book.now c.args.flow.now || is_short c.args.book.now c.args.side.now) →
     (is_short_flow c.args.book.now c.args.flow.now ≡ false) × (is_short c.args.book.now c.args.side.now ≡ false)
-long c t = or-none _ _ (sym t ∙ c.if-flow-pins.false)
+long c t = or_none _ _ (sym t ∙ c.if-flow-pins.false)
 
 pub returns-then-flow-pins : goal.returns-then-flow-pins
 unfolding checked_sound

@@ -3,16 +3,16 @@ use Prim.Native.Nat.{ℕ, ◌+◌}
 use mathlib.Core.Path.{ap, ap₂, sym, ◌∙◌}
 use native.Mathlib.Omega.{arith}
 use Rattle.audit.specs.Tallies.{meters_to}
-use Rattle.audit.proofs.Totals.{sum-none, sum-next}
+use Rattle.audit.proofs.Totals.{sum_none, sum_next}
 use Rattle.audit.proofs.meter_sum.Goals as goal
 
 pub loop-m-init : goal.loop-m-init
-loop-m-init c = (omega arith, sum-none _, omega arith)
+loop-m-init c = (omega arith, sum_none _, omega arith)
 
 pub loop-m-preserved : goal.loop-m-preserved
 loop-m-preserved c =
     let i = c.loop-m in
-    (omega arith, ap₂ (λ (x y : ℕ). x + y) i.invariant.1 c.meter_at-sum.ensures.0 ∙ sym (sum-next _ i.m), omega arith)
+    (omega arith, ap₂ (λ (x y : ℕ). x + y) i.invariant.1 c.meter_at-sum.ensures.0 ∙ sym (sum_next _ i.m), omega arith)
 
 pub returns : goal.returns
 returns c =

@@ -4,21 +4,21 @@ use mathlib.Core.Path.{◌≡◌, ap, ap₂, sym, ◌∙◌}
 use native.Mathlib.Omega.{arith}
 use lib.ListN.{length}
 use Rattle.book.specs.Format.{nets, pin_count, first_pin}
-use Rattle.book.proofs.CardLaws.{pin-before}
+use Rattle.book.proofs.CardLaws.{pin_before}
 use Rattle.audit.specs.Rules.{sent_at, taken_at, net_sent_to, net_taken_to, bad_net_flow}
-use Rattle.audit.proofs.Totals.{sum-none, sum-next}
+use Rattle.audit.proofs.Totals.{sum_none, sum_next}
 use Rattle.audit.proofs.net_breaks.Goals as goal
 use Rattle.audit.proofs.net_breaks.Goals.{In-loop-j}
 
 pub loop-j-init : goal.loop-j-init
-loop-j-init c = (omega arith, sum-none _, sum-none _, omega arith, omega arith)
+loop-j-init c = (omega arith, sum_none _, sum_none _, omega arith, omega arith)
 
 -- pin j of the net has a number
 here : (c : In-loop-j) → c.args.first + c.loop-j.j < length c.args.flow.now
 here c =
     let s = c.args.book.now in
     let p = c.requires in
-    omega (arith, pin-before s c.args.n (nets s) c.loop-j.j p.1.under (omega arith), p.0.sound.pins-all)
+    omega (arith, pin_before s c.args.n (nets s) c.loop-j.j p.1.under (omega arith), p.0.sound.pins_all)
 
 pub overflow_add-first : goal.overflow_add-first
 overflow_add-first c = omega (arith, here (goal.at.overflow_add-first c).In-loop-j)
@@ -38,8 +38,8 @@ loop-j-preserved c =
     let i = c.loop-j in
     let at : a.first + i.j ≡ first_pin a.book.now a.n + i.j = ap (λ (k : ℕ). k + i.j) c.requires.1.begins in (
       omega arith,
-      ap₂ (λ (x y : ℕ). x + y) i.invariant.1 (c.sent_at-sent.ensures.0 ∙ ap (sent_at a.flow.now) at) ∙ sym (sum-next _ i.j),
-      ap₂ (λ (x y : ℕ). x + y) i.invariant.2 (c.taken_at-taken.ensures.0 ∙ ap (taken_at a.flow.now) at) ∙ sym (sum-next _ i.j),
+      ap₂ (λ (x y : ℕ). x + y) i.invariant.1 (c.sent_at-sent.ensures.0 ∙ ap (sent_at a.flow.now) at) ∙ sym (sum_next _ i.j),
+      ap₂ (λ (x y : ℕ). x + y) i.invariant.2 (c.taken_at-taken.ensures.0 ∙ ap (taken_at a.flow.now) at) ∙ sym (sum_next _ i.j),
       omega arith,
       omega arith,
     )

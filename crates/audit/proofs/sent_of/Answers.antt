@@ -2,7 +2,7 @@
 use mathlib.Core.Path.{ap, ◌∙◌}
 use native.Mathlib.Omega.{arith}
 use Rattle.line.specs.Flow.{sent}
-use Rattle.audit.proofs.Numbers.{widens, widened, sent-most}
+use Rattle.audit.proofs.Numbers.{widens, widened, sent_most}
 use Rattle.audit.proofs.sent_of.Goals as goal
 
 pub overflow_cast-x : goal.overflow_cast-x
@@ -12,4 +12,4 @@ pub returns : goal.returns
 returns c =
     let x = c.args.x in
     let e = c.above.ensures ∙ ap sent (widened x c.ranges.x) in
-    (e, omega (arith, sent-most x c.ranges.x))
+    (e, omega (arith, sent_most x c.ranges.x))

@@ -3,11 +3,11 @@ use mathlib.Core.Path.{◌≡◌, refl, ◌∙◌}
 use native.Mathlib.Omega.{arith}
 use Rattle.line.specs.Flow.{sent, taken}
 use Rattle.book.specs.Format.{pins}
-use Rattle.audit.proofs.Tallied.{room, tally-none, tally-more}
+use Rattle.audit.proofs.Tallied.{room, tally_none, tally_more}
 use Rattle.audit.proofs.tally.Goals as goal
 
 pub loop-p-init : goal.loop-p-init
-loop-p-init c = (omega arith, refl, refl, tally-none _ _ sent _ c.requires.1, tally-none _ _ taken _ c.requires.2)
+loop-p-init c = (omega arith, refl, refl, tally_none _ _ sent _ c.requires.1, tally_none _ _ taken _ c.requires.2)
 
 pub add-requires : goal.add-requires
 add-requires c =
@@ -24,8 +24,8 @@ loop-p-preserved c =
     let m = c.pin-m in
     let x = c.sent_at in
     let y = c.taken_at in
-    let a = tally-more _ _ sent h i.p _ i.invariant.3 (omega arith) _ m.ensures.0 _ x.ensures.0 x.ensures.1 _ c.add.ensures in
-    let b = tally-more _ _ taken h i.p _ i.invariant.4 (omega arith) _ m.ensures.0 _ y.ensures.0 y.ensures.1 _ c.add-in-loop-p.ensures in
+    let a = tally_more _ _ sent h i.p _ i.invariant.3 (omega arith) _ m.ensures.0 _ x.ensures.0 x.ensures.1 _ c.add.ensures in
+    let b = tally_more _ _ taken h i.p _ i.invariant.4 (omega arith) _ m.ensures.0 _ y.ensures.0 y.ensures.1 _ c.add-in-loop-p.ensures in
     (omega arith, a.0 ∙ i.invariant.1, b.0 ∙ i.invariant.2, a.1, b.1)
 
 pub shape_of-sends : goal.shape_of-sends

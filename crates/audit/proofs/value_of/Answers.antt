@@ -7,19 +7,19 @@ use lib.Dec.{eqb}
 use Rattle.line.specs.Flow.{meters}
 use Rattle.book.specs.Format.{pins, mark, pin}
 use Rattle.book.specs.Cards.{card_of}
-use Rattle.book.proofs.CardLaws.{pin-under}
+use Rattle.book.proofs.CardLaws.{pin_under}
 use Rattle.audit.specs.Rules.{sent_to, taken_to, value_sent, value_taken}
-use Rattle.audit.proofs.Totals.{sum-none, sum-next}
+use Rattle.audit.proofs.Totals.{sum_none, sum_next}
 use Rattle.audit.proofs.value_of.Goals as goal
 use Rattle.audit.proofs.value_of.Goals.{After-loop-p}
 
 pub loop-p-init : goal.loop-p-init
-loop-p-init c = (omega arith, sum-none _, sum-none _, omega arith, omega arith)
+loop-p-init c = (omega arith, sum_none _, sum_none _, omega arith, omega arith)
 
 pub mark-on-requires : goal.mark-on-requires
 mark-on-requires c =
     let p = c.requires in
-    (p.0.sound.laid_out, rw c.pin.ensures.0 (pin-under _ p.0.sound c.loop-p.p (omega arith)))
+    (p.0.sound.laid_out, rw c.pin.ensures.0 (pin_under _ p.0.sound c.loop-p.p (omega arith)))
 
 pub loop-p-preserved : goal.loop-p-preserved
 loop-p-preserved c =
@@ -29,8 +29,8 @@ loop-p-preserved c =
     let x = c.if_on-sent.ensures.0 ∙ ap₂ (λ (m v : ℕ). cond (eqb m 1) v 0) k c.sent_at.ensures.0 in
     let y = c.if_on-taken.ensures.0 ∙ ap₂ (λ (m v : ℕ). cond (eqb m 1) v 0) k c.taken_at.ensures.0 in (
       omega arith,
-      ap₂ (λ (a b : ℕ). a + b) i.invariant.1 x ∙ sym (sum-next _ i.p),
-      ap₂ (λ (a b : ℕ). a + b) i.invariant.2 y ∙ sym (sum-next _ i.p),
+      ap₂ (λ (a b : ℕ). a + b) i.invariant.1 x ∙ sym (sum_next _ i.p),
+      ap₂ (λ (a b : ℕ). a + b) i.invariant.2 y ∙ sym (sum_next _ i.p),
       omega arith,
       omega arith,
     )

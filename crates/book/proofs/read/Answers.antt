@@ -2,11 +2,11 @@ use mathlib.Core.Path.{◌≡◌, sym, ◌∙◌}
 use mathlib.Core.Bool.{true, false}
 use Rattle.book.specs.Format.{laid}
 use Rattle.book.specs.Checks.{read_of}
-use Rattle.book.proofs.Laid.{laid-facts}
+use Rattle.book.proofs.Laid.{laid_facts}
 use Rattle.book.proofs.read.Goals as goal
 
 pub read_laid-requires : goal.read_laid-requires
-read_laid-requires c = laid-facts _ (sym c.is_laid.ensures ∙ c.if-is_laid.true)
+read_laid-requires c = laid_facts _ (sym c.is_laid.ensures ∙ c.if-is_laid.true)
 
 pub returns-then-is_laid : goal.returns-then-is_laid
 unfolding read_of

@@ -2,7 +2,7 @@ use mathlib.Core.Path.{◌≡◌, sym, ◌∙◌, ap₂}
 use mathlib.Core.Bool.{true, false, ◌||◌}
 use Rattle.book.specs.declared.Found.TheVariants.{Nothing}
 use Rattle.book.specs.Checks.{counted, check3, check4, check5, lacks, rest_of}
-use Rattle.book.proofs.Laid.{counted-nets, sum-right}
+use Rattle.book.proofs.Laid.{counted_nets, sum_right}
 use Rattle.book.proofs.read_laid.Goals as goal
 use Rattle.book.proofs.read_laid.Goals.{Else-not-is_counted, In_default, In_default-bad_net, In_default-bad_pin}
 
@@ -30,7 +30,7 @@ unfolding rest_of
 returns-in-At c = rw (passed2 (goal.at.returns-in-At c).Else-not-is_counted, sym c.bad_module.ensures ∙ c.in-At.is)
 
 pub bad_net-requires : goal.bad_net-requires
-bad_net-requires c = (c.requires, counted-nets _ (passed2 (goal.at.bad_net-requires c).Else-not-is_counted))
+bad_net-requires c = (c.requires, counted_nets _ (passed2 (goal.at.bad_net-requires c).Else-not-is_counted))
 
 pub returns-in-At-bad_net : goal.returns-in-At-bad_net
 unfolding rest_of
@@ -38,7 +38,7 @@ returns-in-At-bad_net c =
     rw (passed2 (goal.at.returns-in-At-bad_net c).Else-not-is_counted, passed3 (goal.at.returns-in-At-bad_net c).In_default, sym c.bad_net.ensures ∙ c.in-At-bad_net.is)
 
 pub bad_pin-requires : goal.bad_pin-requires
-bad_pin-requires c = (c.requires, sum-right _ (passed4 (goal.at.bad_pin-requires c).In_default-bad_net))
+bad_pin-requires c = (c.requires, sum_right _ (passed4 (goal.at.bad_pin-requires c).In_default-bad_net))
 
 pub returns-in-At-bad_pin : goal.returns-in-At-bad_pin
 unfolding rest_of

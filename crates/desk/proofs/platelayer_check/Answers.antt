@@ -1,13 +1,13 @@
 -- `desk::platelayer_check` meets its contract: the place is small. Assumes nothing.
 use mathlib.Core.Path.{◌∙◌, sym}
-use Rattle.desk.proofs.Places.{check-place}
+use Rattle.desk.proofs.Places.{check_place}
 use Rattle.desk.proofs.platelayer_check.Goals as goal
 
 pub refused-requires : goal.refused-requires
 refused-requires c =
     let a = c.args in
     let bytes = c.type_inv.side in
-    check-place a.book.now a.side.now a.flow.now a.price c.in-Refused.why (λ i. (bytes i).fits) (sym c.check.ensures ∙ c.in-Refused.is)
+    check_place a.book.now a.side.now a.flow.now a.price c.in-Refused.why (λ i. (bytes i).fits) (sym c.check.ensures ∙ c.in-Refused.is)
 
 pub returns-in-Accepted : goal.returns-in-Accepted
 returns-in-Accepted c = rw (sym c.check.ensures ∙ c.in-Accepted.is) c.done.ensures

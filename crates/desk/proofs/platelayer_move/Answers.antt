@@ -4,14 +4,14 @@ use mathlib.Core.Path.{◌∙◌, sym}
 use mir.ValLaws.{to_z-of_z}
 use mir.Val.{SFits}
 use mir.Syntax.{w64}
-use Rattle.desk.proofs.Places.{move-place}
+use Rattle.desk.proofs.Places.{move_place}
 use Rattle.desk.proofs.platelayer_move.Goals as goal
 
 pub refused-requires : goal.refused-requires
 refused-requires c =
     let a = c.args in
     let bytes = c.type_inv.side in
-    move-place a.book.now a.side.now a.«module» c.in-Refused.why (λ i. (bytes i).fits) (sym c.change.ensures ∙ c.in-Refused.is)
+    move_place a.book.now a.side.now a.«module» c.in-Refused.why (λ i. (bytes i).fits) (sym c.change.ensures ∙ c.in-Refused.is)
 
 pub returns-in-Change : goal.returns-in-Change
 returns-in-Change c =

@@ -5,29 +5,29 @@ use lib.IntN.{pos}
 use mir.Val.{SFits}
 use mir.ValLaws.{to_z-of_z}
 use mir.Syntax.{w64}
-use Rattle.desk.proofs.Values.{fits, price-few}
-use Rattle.desk.proofs.Places.{price-place}
+use Rattle.desk.proofs.Values.{fits, price_few}
+use Rattle.desk.proofs.Places.{price_place}
 use Rattle.desk.proofs.platelayer_price.Goals as goal
 use Rattle.desk.proofs.platelayer_price.Goals.{In-Price}
 
-price-fits : (c : In-Price) → SFits w64 (pos c.in-Price.price)
-price-fits c =
+price_fits : (c : In-Price) → SFits w64 (pos c.in-Price.price)
+price_fits c =
     let a = c.args in
     let bytes = c.type_inv.book in
-    fits c.in-Price.price (omega (arith, price-few a.book.now a.side.now c.in-Price.price (λ i. (bytes i).fits) (sym c.price.ensures ∙ c.in-Price.is)))
+    fits c.in-Price.price (omega (arith, price_few a.book.now a.side.now c.in-Price.price (λ i. (bytes i).fits) (sym c.price.ensures ∙ c.in-Price.is)))
 
 pub overflow_cast-price : goal.overflow_cast-price
-overflow_cast-price c = price-fits (goal.at.overflow_cast-price c).In-Price
+overflow_cast-price c = price_fits (goal.at.overflow_cast-price c).In-Price
 
 pub refused-requires : goal.refused-requires
 refused-requires c =
     let a = c.args in
     let bytes = c.type_inv.side in
-    price-place a.book.now a.side.now c.in-Refused.why (λ i. (bytes i).fits) (sym c.price.ensures ∙ c.in-Refused.is)
+    price_place a.book.now a.side.now c.in-Refused.why (λ i. (bytes i).fits) (sym c.price.ensures ∙ c.in-Refused.is)
 
 pub returns-in-Price : goal.returns-in-Price
 returns-in-Price c =
-    rw (sym c.price.ensures ∙ c.in-Price.is) (c.done.ensures ∙ rw (to_z-of_z w64 (pos c.in-Price.price) (price-fits (goal.at.returns-in-Price c).In-Price)))
+    rw (sym c.price.ensures ∙ c.in-Price.is) (c.done.ensures ∙ rw (to_z-of_z w64 (pos c.in-Price.price) (price_fits (goal.at.returns-in-Price c).In-Price)))
 
 pub returns-in-Refused : goal.returns-in-Refused
 returns-in-Refused c = rw (sym c.price.ensures ∙ c.in-Refused.is) c.refused.ensures

@@ -5,26 +5,26 @@ use lib.IntN.{pos}
 use mir.Val.{SFits}
 use mir.ValLaws.{to_z-of_z}
 use mir.Syntax.{w64}
-use Rattle.desk.proofs.Values.{fits, split-few}
-use Rattle.desk.proofs.Places.{split-place}
+use Rattle.desk.proofs.Values.{fits, split_few}
+use Rattle.desk.proofs.Places.{split_place}
 use Rattle.desk.proofs.platelayer_split.Goals as goal
 use Rattle.desk.proofs.platelayer_split.Goals.{In-Price}
 
-price-fits : (c : In-Price) → SFits w64 (pos c.in-Price.price)
-price-fits c =
+price_fits : (c : In-Price) → SFits w64 (pos c.in-Price.price)
+price_fits c =
     let a = c.args in
     let bytes = c.type_inv.book in
     let split' = c.split in
-    fits c.in-Price.price (omega (arith, split-few a.book.now _ _ c.in-Price.price (λ i. (bytes i).fits) (rw c.in-Price.is at split'.ensures)))
+    fits c.in-Price.price (omega (arith, split_few a.book.now _ _ c.in-Price.price (λ i. (bytes i).fits) (rw c.in-Price.is at split'.ensures)))
 
 pub overflow_cast-price : goal.overflow_cast-price
-overflow_cast-price c = price-fits (goal.at.overflow_cast-price c).In-Price
+overflow_cast-price c = price_fits (goal.at.overflow_cast-price c).In-Price
 
 pub refused-requires : goal.refused-requires
 refused-requires c =
     let a = c.args in
     let split' = c.split in
-    split-place a.book.now _ _ c.in-Refused.why (rw c.in-Refused.is at split'.ensures)
+    split_place a.book.now _ _ c.in-Refused.why (rw c.in-Refused.is at split'.ensures)
 
 pub returns-in-Price : goal.returns-in-Price
 returns-in-Price c =
@@ -32,7 +32,7 @@ returns-in-Price c =
     record {
       answer = split'.result;
       split = split'.ensures;
-      numbers = rw c.in-Price.is (c.done.ensures ∙ rw (to_z-of_z w64 (pos c.in-Price.price) (price-fits (goal.at.returns-in-Price c).In-Price)));
+      numbers = rw c.in-Price.is (c.done.ensures ∙ rw (to_z-of_z w64 (pos c.in-Price.price) (price_fits (goal.at.returns-in-Price c).In-Price)));
     }
 
 pub returns-in-Refused : goal.returns-in-Refused

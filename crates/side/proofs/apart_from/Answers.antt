@@ -7,7 +7,7 @@ use Rattle.line.specs.Card.{Side, outside, both, touches}
 use Rattle.line.specs.Flow.{only}
 use Rattle.book.specs.Format.{pin_count}
 use Rattle.book.specs.Cards.{pins_of}
-use Rattle.book.proofs.CardLaws.{touches-start, touches-next, touches-all}
+use Rattle.book.proofs.CardLaws.{touches_start, touches_next, touches_all}
 use Rattle.side.specs.Sides.{side_of}
 use native.Mathlib.Omega.{arith}
 use Rattle.side.proofs.apart_from.Goals as goal
@@ -16,7 +16,7 @@ pub loop-j-init : goal.loop-j-init
 loop-j-init c = let a = c.args in
     let x = side_of a.side.now in
     let o = only a.m in
-    let none : (y : Side) → _ = λ y. sym (touches-start a.book.now y a.n) in
+    let none : (y : Side) → _ = λ y. sym (touches_start a.book.now y a.n) in
     (omega arith, none o, none (both x (outside o)), none (both (outside x) (outside o)))
 
 pub loop-j-preserved : goal.loop-j-preserved
@@ -30,9 +30,9 @@ loop-j-preserved c = let a = c.args in
     let b = c.inside-b.ensures ∙ ap x p in
     let own = ap o p in (
       omega arith,
-      ap₂ (λ (p q : Bool). p || q) i.invariant.1 own ∙ sym (touches-next s o a.n i.j l),
-      ap₂ (λ (p q : Bool). p || q) i.invariant.2 (ap₂ (λ (p q : Bool). p && not q) b own) ∙ sym (touches-next s (both x (outside o)) a.n i.j l),
-      ap₂ (λ (p q : Bool). p || q) i.invariant.3 (ap₂ (λ (p q : Bool). not p && not q) b own) ∙ sym (touches-next s (both (outside x) (outside o)) a.n i.j l),
+      ap₂ (λ (p q : Bool). p || q) i.invariant.1 own ∙ sym (touches_next s o a.n i.j l),
+      ap₂ (λ (p q : Bool). p || q) i.invariant.2 (ap₂ (λ (p q : Bool). p && not q) b own) ∙ sym (touches_next s (both x (outside o)) a.n i.j l),
+      ap₂ (λ (p q : Bool). p || q) i.invariant.3 (ap₂ (λ (p q : Bool). not p && not q) b own) ∙ sym (touches_next s (both (outside x) (outside o)) a.n i.j l),
     )
 
 pub returns : goal.returns
@@ -43,7 +43,7 @@ returns c = let a = c.args in
     let o = only a.m in
     let e : i.j ≡ pin_count s a.n = omega arith in
     let all : (y : Side) → touches y (take i.j (pins_of s a.n)) ≡ touches y (pins_of s a.n) =
-    λ y. ap (λ (k : ℕ). touches y (take k (pins_of s a.n))) e ∙ touches-all s y a.n in
+    λ y. ap (λ (k : ℕ). touches y (take k (pins_of s a.n))) e ∙ touches_all s y a.n in
     let has = i.invariant.1 ∙ all o in
     let on = i.invariant.2 ∙ all (both x (outside o)) in
     let off = i.invariant.3 ∙ all (both (outside x) (outside o)) in

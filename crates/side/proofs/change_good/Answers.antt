@@ -4,11 +4,11 @@ use mir.Syntax.{w64}
 use mir.ValLaws.{to_z-of_z}
 use Rattle.side.specs.declared.Moved.TheVariants.{Change}
 use Rattle.side.specs.Moves.{changed_good}
-use Rattle.side.proofs.Changes.{free-tells}
+use Rattle.side.proofs.Changes.{free_tells}
 use Rattle.side.proofs.change_good.Goals as goal
 
 pub change_of-requires : goal.change_of-requires
-change_of-requires c = (c.requires, (free-tells _ _ (sym c.is_free.ensures ∙ c.if-is_free.true)).0)
+change_of-requires c = (c.requires, (free_tells _ _ (sym c.is_free.ensures ∙ c.if-is_free.true)).0)
 
 pub returns-then-is_free : goal.returns-then-is_free
 unfolding changed_good

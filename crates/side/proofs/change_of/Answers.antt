@@ -9,12 +9,12 @@ use mir.ValLaws.{to_z-of_z}
 use Rattle.line.specs.Card.{Side, crosses, price}
 use Rattle.book.specs.Format.{nets, weight, first_pin}
 use Rattle.book.specs.Cards.{net_of, nets_of}
-use Rattle.book.proofs.CardLaws.{price-start, price-next, price-all, first_pin-suc}
+use Rattle.book.proofs.CardLaws.{price_start, price_next, price_all, first_pin-suc}
 use Rattle.side.specs.declared.Apart.{Apart}
 use Rattle.side.specs.Sides.{side_of}
 use Rattle.side.specs.Moves.{flipped, crosses_with}
-use Rattle.side.proofs.Places.{next-within}
-use Rattle.side.proofs.Moves.{stays, moves, net-turns, differences}
+use Rattle.side.proofs.Places.{next_within}
+use Rattle.side.proofs.Moves.{stays, moves, net_turns, differences}
 use native.Mathlib.Omega.{arith}
 use Rattle.side.proofs.change_of.Goals as goal
 
@@ -22,10 +22,10 @@ pub loop-n-init : goal.loop-n-init
 unfolding first_pin
 loop-n-init c = let a = c.args in
     let x = side_of a.side.now in
-    (omega arith, omega (arith, price-start a.book.now x, price-start a.book.now (flipped x a.m)), omega arith, omega arith, refl)
+    (omega arith, omega (arith, price_start a.book.now x, price_start a.book.now (flipped x a.m)), omega arith, omega arith, refl)
 
 pub overflow_add-first : goal.overflow_add-first
-overflow_add-first c = omega (arith, c.pin_count-first.ensures.0, next-within c.args.book.now c.requires.0.sound c.loop-n.n (omega arith))
+overflow_add-first c = omega (arith, c.pin_count-first.ensures.0, next_within c.args.book.now c.requires.0.sound c.loop-n.n (omega arith))
 
 pub loop-n-preserved : goal.loop-n-preserved
 loop-n-preserved c = let a = c.args in
@@ -41,7 +41,7 @@ loop-n-preserved c = let a = c.args in
     let gains = c.weigh-gained.ensures.0 ∙ ap₂ (λ (p q : Bool). cond (q && not p) (weight s i.n) 0) before after in
     let loses = c.weigh-lost.ensures.0 ∙ ap₂ (λ (p q : Bool). cond (p && not q) (weight s i.n) 0) before after in (
       omega arith,
-      omega (arith, i.invariant.1, price-next s x i.n l, price-next s y i.n l, gains, loses, net-turns x y e),
+      omega (arith, i.invariant.1, price_next s x i.n l, price_next s y i.n l, gains, loses, net_turns x y e),
       omega arith,
       omega arith,
       ap₂ (λ (p q : ℕ). p + q) i.invariant.4 c.pin_count-first.ensures.0 ∙ sym (first_pin-suc s i.n),
@@ -57,6 +57,6 @@ returns c = let a = c.args in
     let x = side_of a.side.now in
     let y = flipped x a.m in
     let e : i.n ≡ nets s = omega arith in
-    let whole : (z : Side) → price (take i.n (nets_of s)) z ≡ price (nets_of s) z = λ z. ap (λ (k : ℕ). price (take k (nets_of s)) z) e ∙ price-all s z in
+    let whole : (z : Side) → price (take i.n (nets_of s)) z ≡ price (nets_of s) z = λ z. ap (λ (k : ℕ). price (take k (nets_of s)) z) e ∙ price_all s z in
     to_z-of_z w64 c.less.result (record { sfits = c.less.type_inv }) ∙ c.less.ensures
     ∙ differences i.gained i.lost (price (nets_of s) y) (price (nets_of s) x) (omega (arith, i.invariant.1, whole x, whole y))

@@ -4,7 +4,7 @@ use Prim.Native.Nat.{ℕ, ◌*◌, ◌≤◌}
 use Rattle.line.specs.Card.{count_to}
 use Rattle.book.specs.Format.{modules}
 use Rattle.side.specs.Sides.{side_of, bytes_for}
-use Rattle.side.proofs.Counts.{spare-adds-nothing, bits_inside}
+use Rattle.side.proofs.Counts.{spare_adds_nothing, bits_inside}
 use native.Mathlib.Omega.{arith}
 use Rattle.side.proofs.count.Goals as goal
 
@@ -13,4 +13,4 @@ returns c = let l = c.args.side.now in
     let m = modules c.args.book.now in
     let enough : m ≤ bytes_for m * 8 = omega arith in
     c.ones.ensures.0 ∙ ap (λ (k : ℕ). count_to (side_of l) (bytes_for k * 8)) c.modules.ensures
-    ∙ sym (bits_inside l (bytes_for m * 8)) ∙ spare-adds-nothing 8 l m (bytes_for m) c.requires.1 enough ∙ bits_inside l m
+    ∙ sym (bits_inside l (bytes_for m * 8)) ∙ spare_adds_nothing 8 l m (bytes_for m) c.requires.1 enough ∙ bits_inside l m

@@ -2,11 +2,11 @@
 use mathlib.Core.Path.{sym, ap, ◌∙◌}
 use Rattle.side.specs.declared.Priced.TheVariants.{Price}
 use Rattle.side.specs.Prices.{priced}
-use Rattle.side.proofs.Refusals.{good-lent}
+use Rattle.side.proofs.Refusals.{good_lent}
 use Rattle.side.proofs.price.Goals as goal
 
 pub price_of-requires : goal.price_of-requires
-price_of-requires c = good-lent _ _ (sym c.check.ensures ∙ c.in-Good.is)
+price_of-requires c = good_lent _ _ (sym c.check.ensures ∙ c.in-Good.is)
 
 pub returns-in-Good : goal.returns-in-Good
 unfolding priced

@@ -9,4 +9,4 @@ pub split_sound-requires : goal.split_sound-requires
 split_sound-requires c = room_of c.args.book.now _ c.requires (sym c.is_short.ensures ∙ c.if-is_short.false)
 
 pub returns : goal.returns
-returns c = rw (sym c.is_short.ensures ∙ c.if-is_short.false) (record { at-price = _; answer = refl; holds = c.split_sound.ensures })
+returns c = rw (sym c.is_short.ensures ∙ c.if-is_short.false) (record { at_price = _; answer = refl; holds = c.split_sound.ensures })

@@ -7,7 +7,7 @@ use Rattle.book.specs.declared.Found.TheVariants.{At}
 use Rattle.book.specs.First.{first, lowest}
 use Rattle.book.specs.Format.{first_pin, nets, pins}
 use Rattle.book.specs.Checks.{bad_net, check4}
-use Rattle.book.proofs.Firsts.{lowest-more, lowest-found, lowest-ended}
+use Rattle.book.proofs.Firsts.{lowest_more, lowest_found, lowest_ended}
 use Rattle.book.proofs.checks.bad_net.Goals as goal
 
 pub loop-n-init : goal.loop-n-init
@@ -19,14 +19,14 @@ unfolding check4
 returns-then-net_is_bad c =
     let i = c.loop-n in
     let s = c.args.book.now in
-    rw (lowest-found (bad_net s) i.n (nets s) i.invariant.1 (sym c.net_is_bad.ensures ∙ c.if-net_is_bad.true) (omega arith))
+    rw (lowest_found (bad_net s) i.n (nets s) i.invariant.1 (sym c.net_is_bad.ensures ∙ c.if-net_is_bad.true) (omega arith))
 
 pub loop-n-preserved : goal.loop-n-preserved
 unfolding first_pin
 loop-n-preserved c =
     let i = c.loop-n in (
       omega arith,
-      lowest-more _ i.n i.invariant.1 (sym c.net_is_bad.ensures ∙ c.if-net_is_bad.false),
+      lowest_more _ i.n i.invariant.1 (sym c.net_is_bad.ensures ∙ c.if-net_is_bad.false),
       rw add-one (omega arith),
       omega arith,
     )
@@ -38,7 +38,7 @@ returns-then-sum-pins c =
     let s = c.args.book.now in
     let e : i.n ≡ nets s = omega arith in
     let h : first_pin s (nets s) ≡ pins s = ap (first_pin s) (sym e) ∙ sym i.invariant.2 ∙ c.if-sum-pins.true ∙ c.pins.ensures in
-    rw (lowest-ended (bad_net s) i.n (nets s) i.invariant.1 e, eq-eqb _ _ h)
+    rw (lowest_ended (bad_net s) i.n (nets s) i.invariant.1 e, eq-eqb _ _ h)
 
 pub returns-else-sum-pins : goal.returns-else-sum-pins
 unfolding check4
@@ -46,5 +46,5 @@ returns-else-sum-pins c =
     let i = c.loop-n in
     let s = c.args.book.now in
     let e : i.n ≡ nets s = omega arith in
-    rw (lowest-ended (bad_net s) i.n (nets s) i.invariant.1 e, ne_eqb (first_pin s (nets s)) (pins s) (λ q. c.if-sum-pins.false (i.invariant.2 ∙ ap (first_pin s) e ∙ q ∙ sym c.pins.ensures)))
+    rw (lowest_ended (bad_net s) i.n (nets s) i.invariant.1 e, ne_eqb (first_pin s (nets s)) (pins s) (λ q. c.if-sum-pins.false (i.invariant.2 ∙ ap (first_pin s) e ∙ q ∙ sym c.pins.ensures)))
     (ap At c.nets-count.ensures)

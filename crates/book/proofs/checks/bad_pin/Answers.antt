@@ -8,8 +8,8 @@ use Rattle.book.specs.declared.Found.TheVariants.{At}
 use Rattle.book.specs.First.{first, lowest}
 use Rattle.book.specs.Format.{first_pin, nets, pins, pin_count}
 use Rattle.book.specs.Checks.{bad_pin_of, bad_pins, check5}
-use Rattle.book.proofs.Firsts.{lowest-more, lowest-found, lowest-ended, first_more, first_found}
-use Rattle.book.proofs.CardLaws.{pin-before}
+use Rattle.book.proofs.Firsts.{lowest_more, lowest_found, lowest_ended, first_more, first_found}
+use Rattle.book.proofs.CardLaws.{pin_before}
 use Rattle.book.proofs.checks.bad_pin.Goals as goal
 use Rattle.book.proofs.checks.bad_pin.Goals.{After-pin_is_bad, In-loop-j}
 
@@ -25,7 +25,7 @@ loop-j-init c = (omega arith, omega arith, refl)
 within : (c : In-loop-j) → c.loop-j.p < pins c.args.book.now
 within c =
     let s = c.args.book.now in
-    omega (arith, pin-before s c.nets.n (nets s) c.loop-j.j (omega arith) (omega arith))
+    omega (arith, pin_before s c.nets.n (nets s) c.loop-j.j (omega arith) (omega arith))
 
 pub pin_is_bad-requires : goal.pin_is_bad-requires
 pin_is_bad-requires c = (c.requires.0, within (goal.at.pin_is_bad-requires c).In-loop-j, omega arith)
@@ -40,7 +40,7 @@ overflow_add-p c = omega (arith, within (goal.at.overflow_add-p c).In-loop-j)
 pub loop-j-preserved : goal.loop-j-preserved
 loop-j-preserved c =
     let i = c.loop-j in
-    (omega arith, omega arith, lowest-more _ i.j i.invariant.2 (tested (goal.at.loop-j-preserved c).After-pin_is_bad ∙ c.if-pin_is_bad.false))
+    (omega arith, omega arith, lowest_more _ i.j i.invariant.2 (tested (goal.at.loop-j-preserved c).After-pin_is_bad ∙ c.if-pin_is_bad.false))
 
 pub nets-preserved : goal.nets-preserved
 unfolding first_pin
@@ -51,7 +51,7 @@ nets-preserved c =
     let e : i.j ≡ pin_count s o.n = omega arith in (
       omega arith,
       rw add-one (omega arith),
-      first_more (bad_pins s) o.n o.invariant.2 (rw (lowest-ended (bad_pin_of s o.n) i.j (pin_count s o.n) i.invariant.2 e)),
+      first_more (bad_pins s) o.n o.invariant.2 (rw (lowest_ended (bad_pin_of s o.n) i.j (pin_count s o.n) i.invariant.2 e)),
     )
 
 pub returns-then-n-count : goal.returns-then-n-count
@@ -68,5 +68,5 @@ returns-then-pin_is_bad c =
     let o = c.nets in
     let s = c.args.book.now in
     let l : i.j < pin_count s o.n = omega arith in
-    let f = lowest-found (bad_pin_of s o.n) i.j (pin_count s o.n) i.invariant.2 (tested (goal.at.returns-then-pin_is_bad c).After-pin_is_bad ∙ c.if-pin_is_bad.true) l in
+    let f = lowest_found (bad_pin_of s o.n) i.j (pin_count s o.n) i.invariant.2 (tested (goal.at.returns-then-pin_is_bad c).After-pin_is_bad ∙ c.if-pin_is_bad.true) l in
     sym (first_found (bad_pins s) o.n (nets s) i.p o.invariant.2 (rw f (ap At (sym i.invariant.1))) (omega arith))

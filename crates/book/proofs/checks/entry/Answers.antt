@@ -6,7 +6,7 @@ use Rattle.book.specs.Steps.{number_in}
 use Rattle.book.specs.declared.Step.{Step}
 use Rattle.book.specs.declared.Step.TheVariants.{Number}
 use Rattle.book.specs.declared.Cursor.{Cursor}
-use Rattle.book.proofs.Strides.{Goes, goes, ends, Got, got, does-enter, does-refuse, cut_short}
+use Rattle.book.proofs.Strides.{Goes, goes, ends, Got, got, does_enter, does_refuse, cut_short}
 use Rattle.book.proofs.checks.entry.Goals as goal
 use Rattle.book.proofs.checks.entry.Goals.{In-Number, In-Number-next_u32, In-Number-next_u32-2}
 
@@ -62,9 +62,9 @@ overflow_add-result c = omega (arith, few (goal.at.overflow_add-result c).In-Num
 pub returns-then-k-kind : goal.returns-then-k-kind
 returns-then-k-kind c =
     let a = c.args in
-    (does-enter a.book.now a.here.at a.kind a.start a.unit _ _ _ _ (whole (goal.at.returns-then-k-kind c).In-Number-next_u32-2 (first (goal.at.returns-then-k-kind c).In-Number) (second (goal.at.returns-then-k-kind c).In-Number-next_u32)) c.if-k-kind.true, omega (arith, few (goal.at.returns-then-k-kind c).In-Number-next_u32-2))
+    (does_enter a.book.now a.here.at a.kind a.start a.unit _ _ _ _ (whole (goal.at.returns-then-k-kind c).In-Number-next_u32-2 (first (goal.at.returns-then-k-kind c).In-Number) (second (goal.at.returns-then-k-kind c).In-Number-next_u32)) c.if-k-kind.true, omega (arith, few (goal.at.returns-then-k-kind c).In-Number-next_u32-2))
 
 pub returns : goal.returns
 returns c =
     let a = c.args in
-    (does-refuse a.book.now a.here.at a.kind a.start a.unit _ _ _ _ (whole (goal.at.returns c).In-Number-next_u32-2 (first (goal.at.returns c).In-Number) (second (goal.at.returns c).In-Number-next_u32)) c.if-k-kind.false, omega arith)
+    (does_refuse a.book.now a.here.at a.kind a.start a.unit _ _ _ _ (whole (goal.at.returns c).In-Number-next_u32-2 (first (goal.at.returns c).In-Number) (second (goal.at.returns c).In-Number-next_u32)) c.if-k-kind.false, omega arith)

@@ -38,8 +38,8 @@ two c f = enters _ 12 2 _ 4 _ _ (put _ 2 4 _ 12 _ _ _ f.after f.ends (sym c.entr
 few : (r : Step) (n top : ℕ) (d : Cursor) → r ≡ Number n d → number_in r ≤ top → n ≤ top
 few r n top d e l = rw e at l
 
-second-few : (c : In-Number-entry) → c.in-Number-entry.second_body ≤ 32 + 4294967295
-second-few c = few _ c.in-Number-entry.second_body _ c.in-Number-entry.second c.in-Number-entry.is c.entry.ensures.1
+second_few : (c : In-Number-entry) → c.in-Number-entry.second_body ≤ 32 + 4294967295
+second_few c = few _ c.in-Number-entry.second_body _ c.in-Number-entry.second c.in-Number-entry.is c.entry.ensures.1
 
 pub returns-in_default : goal.returns-in_default
 returns-in_default c =
@@ -54,7 +54,7 @@ returns-in_default-entry c =
     unlaid s (λ q. missed s 1 4 2 32 (omega arith) (put s 1 4 _ 2 32 32 _ f.after (omega arith) (sym c.entry.ensures.0 ∙ c.in_default-entry.is)) q.long q.one)
 
 pub entry-requires-2 : goal.entry-requires-2
-entry-requires-2 c = (omega (arith, second-few (goal.at.entry-requires-2 c).In-Number-entry), omega arith)
+entry-requires-2 c = (omega (arith, second_few (goal.at.entry-requires-2 c).In-Number-entry), omega arith)
 
 pub returns-in_default-entry-2 : goal.returns-in_default-entry-2
 returns-in_default-entry-2 c =
@@ -65,7 +65,7 @@ returns-in_default-entry-2 c =
 pub entry-requires-3 : goal.entry-requires-3
 entry-requires-3 c =
     let k = few _ c.in-Number-entry-2.third_body _ c.in-Number-entry-2.third c.in-Number-entry-2.is c.entry-2.ensures.1 in
-    (omega (arith, k, second-few (goal.at.entry-requires-3 c).In-Number-entry), omega arith)
+    (omega (arith, k, second_few (goal.at.entry-requires-3 c).In-Number-entry), omega arith)
 
 pub returns-in_default-entry-3 : goal.returns-in_default-entry-3
 returns-in_default-entry-3 c =

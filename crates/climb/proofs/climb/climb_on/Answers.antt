@@ -1,5 +1,5 @@
 -- `climb::climb::climb_on` meets its contract: before each round the flow is steady and no module is on the way. Assumes nothing.
-use Rattle.flow.proofs.CardLaws.{card-made}
+use Rattle.flow.proofs.CardLaws.{card_made}
 use mathlib.Core.Path.{sym, ◌∙◌}
 use native.Mathlib.Omega.{arith}
 use Rattle.climb.proofs.climb.climb_on.Goals as goal
@@ -14,7 +14,7 @@ look-met-requires c =
     let pre = c.requires in
     let loop = c.loop-k in
     let args = c.args in
-    (pre.0.laid.firsts, loop.invariant.0.sums.len ∙ (card-made args.first.now args.mods.now args.weight.now args.mark.now pre.0.laid).nets, loop.invariant.0.flows, loop.invariant.4, loop.invariant.3)
+    (pre.0.laid.firsts, loop.invariant.0.sums.len ∙ (card_made args.first.now args.mods.now args.weight.now args.mark.now pre.0.laid).nets, loop.invariant.0.flows, loop.invariant.4, loop.invariant.3)
 
 pub try_all-requires : goal.try_all-requires
 try_all-requires c =

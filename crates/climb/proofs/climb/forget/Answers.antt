@@ -2,7 +2,7 @@
 use mathlib.Core.Path.{refl, ◌∙◌}
 use native.Mathlib.Omega.{arith}
 use lib.ListN.{length-set}
-use Rattle.flow.proofs.Sets.{in-length}
+use Rattle.flow.proofs.Sets.{in_length}
 use Rattle.flow.proofs.SearchLaws.{cleared}
 use Rattle.climb.proofs.climb.forget.Goals as goal
 
@@ -23,4 +23,4 @@ shape_of-how c = c.loop-m.invariant.1
 pub returns : goal.returns
 returns c m i =
     let loop = c.loop-m in
-    omega (arith, loop.invariant.2 m (omega (arith, in-length loop.how m i, c.loop-m-test.false)))
+    omega (arith, loop.invariant.2 m (omega (arith, in_length loop.how m i, c.loop-m-test.false)))

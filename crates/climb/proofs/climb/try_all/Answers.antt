@@ -18,13 +18,13 @@ pub offset_bounds-guide-s : goal.offset_bounds-guide-s
 offset_bounds-guide-s c =
     let pre = c.requires in
     let good = c.well_formed in
-    record { fits = omega (arith, c.loop-s-test.true, pre.0.few-modules, good) }
+    record { fits = omega (arith, c.loop-s-test.true, pre.0.few_modules, good) }
 
 pub bounds-guide-s : goal.bounds-guide-s
 bounds-guide-s c =
     let pre = c.requires in
     let loop = c.loop-s in
-    omega (arith, c.loop-s-test.true, pre.0.few-modules, loop.invariant.3)
+    omega (arith, c.loop-s-test.true, pre.0.few_modules, loop.invariant.3)
 
 pub try_meter-requires : goal.try_meter-requires
 try_meter-requires c =

@@ -1,6 +1,6 @@
 -- `climb::climb::try_meter` meets its contract: the flow stays steady and the way a thread, of which `u` is the end. Assumes nothing.
-use Rattle.climb.proofs.Routes.{thread-level}
-use Rattle.climb.proofs.Threads.{lay-mods, lay-nets, thread-start, thread-end, tip-below}
+use Rattle.climb.proofs.Routes.{thread_level}
+use Rattle.climb.proofs.Threads.{lay_mods, lay_nets, thread_start, thread_end, tip_below}
 use lib.ListN.{length, length-set}
 use mathlib.Core.Path.{refl, sym, ◌∙◌}
 use native.Mathlib.Omega.{arith}
@@ -21,7 +21,7 @@ pub loop-tries-init : goal.loop-tries-init
 loop-tries-init c =
     let pre = c.requires in
     let args = c.args in
-    (pre.1, thread-start args.first.now args.mods.now args.weight.now args.nets.now args.at.now args.pins.now args.mark.now pre.0 args.how.now args.seen.now args.s c.pack.result pre.5 pre.2.how pre.6 pre.7 (omega (arith, c.pack.ensures)), record { how = length-set args.how.now args.s c.pack.result ∙ pre.2.how; seen = pre.2.seen }, pre.3, pre.4)
+    (pre.1, thread_start args.first.now args.mods.now args.weight.now args.nets.now args.at.now args.pins.now args.mark.now pre.0 args.how.now args.seen.now args.s c.pack.result pre.5 pre.2.how pre.6 pre.7 (omega (arith, c.pack.ensures)), record { how = length-set args.how.now args.s c.pack.result ∙ pre.2.how; seen = pre.2.seen }, pre.3, pre.4)
 
 pub onward-x-requires : goal.onward-x-requires
 onward-x-requires c =
@@ -29,26 +29,26 @@ onward-x-requires c =
     let args = c.args in
     let heavy = c.type_inv.weight in
     let loop = c.loop-tries in
-    (pre.0, thread-level args.first.now args.mods.now args.weight.now args.nets.now args.at.now args.pins.now args.mark.now pre.0 (λ e l. omega (arith, heavy e)) loop.how loop.seen loop.u loop.invariant.1 loop.sums loop.flow loop.invariant.0, loop.invariant.2.how, loop.invariant.2.seen, loop.invariant.3, tip-below loop.invariant.1)
+    (pre.0, thread_level args.first.now args.mods.now args.weight.now args.nets.now args.at.now args.pins.now args.mark.now pre.0 (λ e l. omega (arith, heavy e)) loop.how loop.seen loop.u loop.invariant.1 loop.sums loop.flow loop.invariant.0, loop.invariant.2.how, loop.invariant.2.seen, loop.invariant.3, tip_below loop.invariant.1)
 
 pub offset_bounds-guide-u : goal.offset_bounds-guide-u
 offset_bounds-guide-u c =
     let loop = c.loop-tries in
     let pre = c.requires in
     let good = c.well_formed in
-    record { fits = omega (arith, tip-below loop.invariant.1, pre.0.few-modules, good) }
+    record { fits = omega (arith, tip_below loop.invariant.1, pre.0.few_modules, good) }
 
 pub bounds-guide-u : goal.bounds-guide-u
 bounds-guide-u c =
     let loop = c.loop-tries in
     let pre = c.requires in
     let onward = c.onward-x in
-    omega (arith, tip-below loop.invariant.1, pre.0.few-modules, loop.invariant.3, onward.auto.guide)
+    omega (arith, tip_below loop.invariant.1, pre.0.few_modules, loop.invariant.3, onward.auto.guide)
 
 pub bounds-mark-u : goal.bounds-mark-u
 bounds-mark-u c =
     let loop = c.loop-tries in
-    tip-below loop.invariant.1
+    tip_below loop.invariant.1
 
 pub leave-u-requires : goal.leave-u-requires
 leave-u-requires c =
@@ -79,12 +79,12 @@ enter-u-requires c =
     let if1 = c.if-x-eq0 in
     let args = c.args in
     let pre = c.requires in
-    (loop.invariant.1, onward.ensures if1.false, loop.invariant.2.seen, lay-mods args.first.now args.mods.now args.weight.now args.nets.now args.at.now args.pins.now args.mark.now pre.0, lay-nets args.first.now args.mods.now args.weight.now args.nets.now args.at.now args.pins.now args.mark.now pre.0, omega (arith, pre.0.few-modules))
+    (loop.invariant.1, onward.ensures if1.false, loop.invariant.2.seen, lay_mods args.first.now args.mods.now args.weight.now args.nets.now args.at.now args.pins.now args.mark.now pre.0, lay_nets args.first.now args.mods.now args.weight.now args.nets.now args.at.now args.pins.now args.mark.now pre.0, omega (arith, pre.0.few_modules))
 
 pub bounds-mark-u-else-x-eq0 : goal.bounds-mark-u-else-x-eq0
 bounds-mark-u-else-x-eq0 c =
     let enter = c.enter-u in
-    tip-below enter.ensures
+    tip_below enter.ensures
 
 pub deliver-u-requires : goal.deliver-u-requires
 deliver-u-requires c =
@@ -133,12 +133,12 @@ offset_bounds-how-end c =
     let back = c.back-end in
     let pre = c.requires in
     let good = c.well_formed in
-    record { fits = omega (arith, tip-below back.ensures.0, pre.2.how, good) }
+    record { fits = omega (arith, tip_below back.ensures.0, pre.2.how, good) }
 
 pub bounds-how-end : goal.bounds-how-end
 bounds-how-end c =
     let back = c.back-end in
-    omega (arith, tip-below back.ensures.0, back.ensures.0.trail.lenw)
+    omega (arith, tip_below back.ensures.0, back.ensures.0.trail.lenw)
 
 pub shape_of-how : goal.shape_of-how
 shape_of-how c =
@@ -183,4 +183,4 @@ returns c =
     let loop = c.loop-tries in
     let args = c.args in
     let back = c.back-end in
-    (loop.invariant.0, thread-end args.mods.now args.nets.now args.mark.now back.new.how back.new.seen (length args.weight.now) back.result back.ensures.0 (back.ensures.1 refl))
+    (loop.invariant.0, thread_end args.mods.now args.nets.now args.mark.now back.new.how back.new.seen (length args.weight.now) back.result back.ensures.0 (back.ensures.1 refl))

@@ -1,6 +1,6 @@
 -- `climb::onward::instead` meets its contract: what is taken off the way is put back. Assumes nothing.
 use Rattle.climb.specs.Climb.{Onward, Instead}
-use Rattle.flow.proofs.Sets.{in-length}
+use Rattle.flow.proofs.Sets.{in_length}
 use Rattle.flow.specs.Search.{left, rank}
 use lib.Seq.{set-set, set-get_or}
 use lib.ListN.{length, get_or, set, length-set}
@@ -15,13 +15,13 @@ offset_bounds-how-v c =
     let args = c.args in
     let pre = c.requires in
     let good = c.well_formed in
-    record { fits = omega (arith, in-length (args.how.now) args.v pre.3, good) }
+    record { fits = omega (arith, in_length (args.how.now) args.v pre.3, good) }
 
 pub bounds-how-v : goal.bounds-how-v
 bounds-how-v c =
     let args = c.args in
     let pre = c.requires in
-    in-length (args.how.now) args.v pre.3
+    in_length (args.how.now) args.v pre.3
 
 pub bounds-mods-left_pin : goal.bounds-mods-left_pin
 bounds-mods-left_pin c =
@@ -34,14 +34,14 @@ offset_bounds-guide-u c =
     let args = c.args in
     let pre = c.requires in
     let good = c.well_formed in
-    record { fits = omega (arith, c.wide-u.ensures ∙ ap (λ (i : ℕ). get_or args.mods.now i 0) c.left_pin.ensures, pre.0.laid.below (left ((get_or args.how.now args.v 0))) (pre.2.step args.v pre.3 pre.4).in_left, pre.7, pre.0.few-modules, good) }
+    record { fits = omega (arith, c.wide-u.ensures ∙ ap (λ (i : ℕ). get_or args.mods.now i 0) c.left_pin.ensures, pre.0.laid.below (left ((get_or args.how.now args.v 0))) (pre.2.step args.v pre.3 pre.4).in_left, pre.7, pre.0.few_modules, good) }
 
 pub bounds-guide-u : goal.bounds-guide-u
 bounds-guide-u c =
     let args = c.args in
     let left-pin = c.left_pin in
     let pre = c.requires in
-    omega (arith, c.wide-u.ensures ∙ ap (λ (i : ℕ). get_or args.mods.now i 0) left-pin.ensures, pre.0.laid.below (left ((get_or args.how.now args.v 0))) (pre.2.step args.v pre.3 pre.4).in_left, pre.7, pre.0.few-modules)
+    omega (arith, c.wide-u.ensures ∙ ap (λ (i : ℕ). get_or args.mods.now i 0) left-pin.ensures, pre.0.laid.below (left ((get_or args.how.now args.v 0))) (pre.2.step args.v pre.3 pre.4).in_left, pre.7, pre.0.few_modules)
 
 pub returns-then-d-eq0 : goal.returns-then-d-eq0
 returns-then-d-eq0 c = (refl, λ n. absurd (n refl))
@@ -93,13 +93,13 @@ offset_bounds-how-v-2 c =
     let args = c.args in
     let pre = c.requires in
     let good = c.well_formed in
-    record { fits = omega (arith, in-length (args.how.now) args.v pre.3, good) }
+    record { fits = omega (arith, in_length (args.how.now) args.v pre.3, good) }
 
 pub bounds-how-v-2 : goal.bounds-how-v-2
 bounds-how-v-2 c =
     let args = c.args in
     let pre = c.requires in
-    in-length (args.how.now) args.v pre.3
+    in_length (args.how.now) args.v pre.3
 
 pub widest-x-requires : goal.widest-x-requires
 widest-x-requires c =
@@ -117,13 +117,13 @@ offset_bounds-how-v-3 c =
     let args = c.args in
     let pre = c.requires in
     let good = c.well_formed in
-    record { fits = omega (arith, in-length (args.how.now) args.v pre.3, good) }
+    record { fits = omega (arith, in_length (args.how.now) args.v pre.3, good) }
 
 pub bounds-how-v-3 : goal.bounds-how-v-3
 bounds-how-v-3 c =
     let args = c.args in
     let pre = c.requires in
-    omega (arith, length-set (args.how.now) args.v 0, in-length (args.how.now) args.v pre.3)
+    omega (arith, length-set (args.how.now) args.v 0, in_length (args.how.now) args.v pre.3)
 
 pub only_to-requires : goal.only_to-requires
 only_to-requires c =

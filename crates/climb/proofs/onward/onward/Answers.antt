@@ -1,6 +1,6 @@
 -- `climb::onward::onward` meets its contract: `i` runs over places of the module's own pins. Assumes nothing.
 use Rattle.climb.specs.Climb.{Onward}
-use Rattle.line.proofs.Bools.{or-none}
+use Rattle.line.proofs.Bools.{or_none}
 use borrow.Author.Tests.{eqb-false, ltb-false}
 use lib.Dec.{eqb, ltb}
 use lib.ListN.{length, get_or, length-set}
@@ -13,12 +13,12 @@ pub offset_bounds-guide-u : goal.offset_bounds-guide-u
 offset_bounds-guide-u c =
     let pre = c.requires in
     let good = c.well_formed in
-    record { fits = omega (arith, pre.5, pre.4, pre.0.few-modules, good) }
+    record { fits = omega (arith, pre.5, pre.4, pre.0.few_modules, good) }
 
 pub bounds-guide-u : goal.bounds-guide-u
 bounds-guide-u c =
     let pre = c.requires in
-    omega (arith, pre.5, pre.4, pre.0.few-modules)
+    omega (arith, pre.5, pre.4, pre.0.few_modules)
 
 pub offset_bounds-how-u : goal.offset_bounds-how-u
 offset_bounds-how-u c =
@@ -69,7 +69,7 @@ overflow_add-rank c =
     let if1 = c.if-d-rank in
     let pre = c.requires in
     let guided = c.type_inv.guide in
-    record { fits = omega (arith, ltb-false (length args.mark.now) rank-after.result (or-none (eqb (get_or args.guide.now args.u 0) 0) (ltb (length args.mark.now) rank-after.result) if1.false).1, pre.0.few-modules, c.wide.ensures, guided args.u) }
+    record { fits = omega (arith, ltb-false (length args.mark.now) rank-after.result (or_none (eqb (get_or args.guide.now args.u 0) 0) (ltb (length args.mark.now) rank-after.result) if1.false).1, pre.0.few_modules, c.wide.ensures, guided args.u) }
 
 pub widest-requires : goal.widest-requires
 widest-requires c =
@@ -79,7 +79,7 @@ widest-requires c =
     let args = c.args in
     let rank-after = c.rank_after-rank in
     let if1 = c.if-d-rank in
-    (pre.0, pre.1, pre.2, pre.3, pre.4, pre.5, omega (arith, wide.ensures), wide2.ensures, ltb-false (length args.mark.now) rank-after.result (or-none (eqb (get_or args.guide.now args.u 0) 0) (ltb (length args.mark.now) rank-after.result) if1.false).1, omega (arith, rank-after.ensures), omega (arith, eqb-false (get_or args.guide.now args.u 0) 0 (or-none (eqb (get_or args.guide.now args.u 0) 0) (ltb (length args.mark.now) rank-after.result) if1.false).0))
+    (pre.0, pre.1, pre.2, pre.3, pre.4, pre.5, omega (arith, wide.ensures), wide2.ensures, ltb-false (length args.mark.now) rank-after.result (or_none (eqb (get_or args.guide.now args.u 0) 0) (ltb (length args.mark.now) rank-after.result) if1.false).1, omega (arith, rank-after.ensures), omega (arith, eqb-false (get_or args.guide.now args.u 0) 0 (or_none (eqb (get_or args.guide.now args.u 0) 0) (ltb (length args.mark.now) rank-after.result) if1.false).0))
 
 pub returns-then-rank-wide-gt-LONG : goal.returns-then-rank-wide-gt-LONG
 returns-then-rank-wide-gt-LONG c =
@@ -90,18 +90,18 @@ returns-then-rank-wide-gt-LONG c =
 pub overflow_add-u-2 : goal.overflow_add-u-2
 overflow_add-u-2 c =
     let pre = c.requires in
-    record { fits = omega (arith, pre.5, pre.0.few-modules) }
+    record { fits = omega (arith, pre.5, pre.0.few_modules) }
 
 pub offset_bounds-guide-u-2 : goal.offset_bounds-guide-u-2
 offset_bounds-guide-u-2 c =
     let pre = c.requires in
     let good = c.well_formed in
-    record { fits = omega (arith, pre.5, pre.4, pre.0.few-modules, good) }
+    record { fits = omega (arith, pre.5, pre.4, pre.0.few_modules, good) }
 
 pub bounds-guide-u-2 : goal.bounds-guide-u-2
 bounds-guide-u-2 c =
     let pre = c.requires in
-    omega (arith, pre.5, pre.4, pre.0.few-modules)
+    omega (arith, pre.5, pre.4, pre.0.few_modules)
 
 pub overflow_add-i : goal.overflow_add-i
 overflow_add-i c =
@@ -140,7 +140,7 @@ leave_by-x-requires c =
     let wide2 = c.wide-hi in
     let rank-after = c.rank_after-rank in
     let if1 = c.if-d-rank in
-    (pre.0, pre.1.sums, pre.1.flows, pre.2, pre.3, loop.invariant.1 ∙ pre.4, (pre.0.tables.own args.u loop.i pre.5 (record { low = loop.invariant.0; high = omega (arith, loop-test.true, wide2.ensures) })).0, (pre.0.tables.own args.u loop.i pre.5 (record { low = loop.invariant.0; high = omega (arith, loop-test.true, wide2.ensures) })).1, ltb-false (length args.mark.now) rank-after.result (or-none (eqb (get_or args.guide.now args.u 0) 0) (ltb (length args.mark.now) rank-after.result) if1.false).1, omega (arith, rank-after.ensures), omega (arith, eqb-false (get_or args.guide.now args.u 0) 0 (or-none (eqb (get_or args.guide.now args.u 0) 0) (ltb (length args.mark.now) rank-after.result) if1.false).0))
+    (pre.0, pre.1.sums, pre.1.flows, pre.2, pre.3, loop.invariant.1 ∙ pre.4, (pre.0.tables.own args.u loop.i pre.5 (record { low = loop.invariant.0; high = omega (arith, loop-test.true, wide2.ensures) })).0, (pre.0.tables.own args.u loop.i pre.5 (record { low = loop.invariant.0; high = omega (arith, loop-test.true, wide2.ensures) })).1, ltb-false (length args.mark.now) rank-after.result (or_none (eqb (get_or args.guide.now args.u 0) 0) (ltb (length args.mark.now) rank-after.result) if1.false).1, omega (arith, rank-after.ensures), omega (arith, eqb-false (get_or args.guide.now args.u 0) 0 (or_none (eqb (get_or args.guide.now args.u 0) 0) (ltb (length args.mark.now) rank-after.result) if1.false).0))
 
 pub overflow_sub-i : goal.overflow_sub-i
 overflow_sub-i c =
@@ -159,19 +159,19 @@ narrow-requires c =
 pub overflow_add-guide : goal.overflow_add-guide
 overflow_add-guide c =
     let pre = c.requires in
-    record { fits = omega (arith, pre.5, pre.0.few-modules) }
+    record { fits = omega (arith, pre.5, pre.0.few_modules) }
 
 pub offset_bounds-guide-u-then-x-ne0 : goal.offset_bounds-guide-u-then-x-ne0
 offset_bounds-guide-u-then-x-ne0 c =
     let pre = c.requires in
     let good = c.well_formed in
-    record { fits = omega (arith, pre.5, pre.4, pre.0.few-modules, good) }
+    record { fits = omega (arith, pre.5, pre.4, pre.0.few_modules, good) }
 
 pub bounds-guide-u-then-x-ne0 : goal.bounds-guide-u-then-x-ne0
 bounds-guide-u-then-x-ne0 c =
     let pre = c.requires in
     let loop = c.loop-i in
-    omega (arith, pre.5, pre.4, pre.0.few-modules, loop.invariant.1)
+    omega (arith, pre.5, pre.4, pre.0.few_modules, loop.invariant.1)
 
 pub shape_of-guide-then-x-ne0 : goal.shape_of-guide-then-x-ne0
 shape_of-guide-then-x-ne0 c =

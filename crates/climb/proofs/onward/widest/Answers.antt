@@ -33,7 +33,7 @@ leave_by-x-requires c =
 pub room_of-room-requires : goal.room_of-room-requires
 room_of-room-requires c =
     let pre = c.requires in
-    (pre.1, λ p l. (pre.0.tables.net p (omega (arith, l, pre.0.tables.counts))).0, pre.0.tables.counts, pre.0.few-pins, c.leave_by-x.ensures)
+    (pre.1, λ p l. (pre.0.tables.net p (omega (arith, l, pre.0.tables.counts))).0, pre.0.tables.counts, pre.0.few_pins, c.leave_by-x.ensures)
 
 pub overflow_add-i : goal.overflow_add-i
 overflow_add-i c =

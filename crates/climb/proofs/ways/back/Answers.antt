@@ -1,7 +1,7 @@
 -- `climb::ways::back` meets its contract: the way ends at `u`; the measure is the rank of `u`. Assumes nothing.
 use mathlib.Core.Path.{refl, ◌∙◌}
 use native.Mathlib.Omega.{arith}
-use Rattle.climb.proofs.Threads.{tip-below}
+use Rattle.climb.proofs.Threads.{tip_below}
 use Rattle.climb.proofs.ways.back.Goals as goal
 
 pub loop-u-init : goal.loop-u-init
@@ -12,7 +12,7 @@ loop-u-init c =
 pub bounds-mark-u : goal.bounds-mark-u
 bounds-mark-u c =
     let loop = c.loop-u in
-    tip-below loop.invariant.0
+    tip_below loop.invariant.0
 
 pub leave-u-requires : goal.leave-u-requires
 leave-u-requires c =
@@ -56,4 +56,4 @@ pub returns-then-here : goal.returns-then-here
 returns-then-here c =
     let leave = c.leave-u in
     let loop = c.loop-u in
-    (leave.ensures.0, (λ e. absurd (omega (arith, tip-below loop.invariant.0, c.if-here.true))))
+    (leave.ensures.0, (λ e. absurd (omega (arith, tip_below loop.invariant.0, c.if-here.true))))

@@ -1,6 +1,6 @@
 -- `climb::ways::carry` meets its contract: the push leaves the flow steady, and mending leaves the flow alone. Assumes nothing.
-use Rattle.climb.proofs.Routes.{thread-level, thread-carries, thread-carried}
-use Rattle.climb.proofs.Threads.{tip-below}
+use Rattle.climb.proofs.Routes.{thread_level, thread_carries, thread_carried}
+use Rattle.climb.proofs.Threads.{tip_below}
 use native.Mathlib.Omega.{arith}
 use Rattle.climb.proofs.ways.carry.Goals as goal
 
@@ -9,18 +9,18 @@ push_from-n-requires c =
     let args = c.args in
     let pre = c.requires in
     let heavy = c.type_inv.weight in
-    thread-carries args.first.now args.mods.now args.weight.now args.nets.now args.at.now args.pins.now args.mark.now pre.0 (λ e l. omega (arith, heavy e)) args.how.now args.seen.now args.z pre.2 args.sums.now args.flow.now pre.1 pre.3
+    thread_carries args.first.now args.mods.now args.weight.now args.nets.now args.at.now args.pins.now args.mark.now pre.0 (λ e l. omega (arith, heavy e)) args.how.now args.seen.now args.z pre.2 args.sums.now args.flow.now pre.1 pre.3
 
 pub offset_bounds-how-z : goal.offset_bounds-how-z
 offset_bounds-how-z c =
     let pre = c.requires in
     let good = c.well_formed in
-    record { fits = omega (arith, tip-below pre.2, pre.2.trail.lenw, good) }
+    record { fits = omega (arith, tip_below pre.2, pre.2.trail.lenw, good) }
 
 pub bounds-how-z : goal.bounds-how-z
 bounds-how-z c =
     let pre = c.requires in
-    omega (arith, tip-below pre.2, pre.2.trail.lenw)
+    omega (arith, tip_below pre.2, pre.2.trail.lenw)
 
 pub returns-then-n-rank_of : goal.returns-then-n-rank_of
 returns-then-n-rank_of c =
@@ -28,7 +28,7 @@ returns-then-n-rank_of c =
     let pre = c.requires in
     let heavy = c.type_inv.weight in
     let push-from = c.push_from-n in
-    (thread-carried args.first.now args.mods.now args.weight.now args.nets.now args.at.now args.pins.now args.mark.now pre.0 (λ e l. omega (arith, heavy e)) args.how.now args.seen.now args.z pre.2 args.sums.now args.flow.now pre.1 pre.3 push-from.ensures.1, pre.2)
+    (thread_carried args.first.now args.mods.now args.weight.now args.nets.now args.at.now args.pins.now args.mark.now pre.0 (λ e l. omega (arith, heavy e)) args.how.now args.seen.now args.z pre.2 args.sums.now args.flow.now pre.1 pre.3 push-from.ensures.1, pre.2)
 
 pub mend-mended-requires : goal.mend-mended-requires
 mend-mended-requires c =
@@ -36,7 +36,7 @@ mend-mended-requires c =
     let args = c.args in
     let heavy = c.type_inv.weight in
     let push-from = c.push_from-n in
-    (pre.0, thread-level args.first.now args.mods.now args.weight.now args.nets.now args.at.now args.pins.now args.mark.now pre.0 (λ e l. omega (arith, heavy e)) args.how.now args.seen.now args.z pre.2 _ _ (thread-carried args.first.now args.mods.now args.weight.now args.nets.now args.at.now args.pins.now args.mark.now pre.0 (λ e l. omega (arith, heavy e)) args.how.now args.seen.now args.z pre.2 args.sums.now args.flow.now pre.1 pre.3 push-from.ensures.1), pre.2, pre.4, pre.5, pre.6)
+    (pre.0, thread_level args.first.now args.mods.now args.weight.now args.nets.now args.at.now args.pins.now args.mark.now pre.0 (λ e l. omega (arith, heavy e)) args.how.now args.seen.now args.z pre.2 _ _ (thread_carried args.first.now args.mods.now args.weight.now args.nets.now args.at.now args.pins.now args.mark.now pre.0 (λ e l. omega (arith, heavy e)) args.how.now args.seen.now args.z pre.2 args.sums.now args.flow.now pre.1 pre.3 push-from.ensures.1), pre.2, pre.4, pre.5, pre.6)
 
 pub returns-then-mended : goal.returns-then-mended
 returns-then-mended c =
@@ -45,7 +45,7 @@ returns-then-mended c =
     let heavy = c.type_inv.weight in
     let push-from = c.push_from-n in
     let mend = c.mend-mended in
-    (thread-carried args.first.now args.mods.now args.weight.now args.nets.now args.at.now args.pins.now args.mark.now pre.0 (λ e l. omega (arith, heavy e)) args.how.now args.seen.now args.z pre.2 args.sums.now args.flow.now pre.1 pre.3 push-from.ensures.1, mend.ensures)
+    (thread_carried args.first.now args.mods.now args.weight.now args.nets.now args.at.now args.pins.now args.mark.now pre.0 (λ e l. omega (arith, heavy e)) args.how.now args.seen.now args.z pre.2 args.sums.now args.flow.now pre.1 pre.3 push-from.ensures.1, mend.ensures)
 
 pub returns-else-mended : goal.returns-else-mended
 returns-else-mended c =
@@ -54,4 +54,4 @@ returns-else-mended c =
     let heavy = c.type_inv.weight in
     let push-from = c.push_from-n in
     let mend = c.mend-mended in
-    (thread-carried args.first.now args.mods.now args.weight.now args.nets.now args.at.now args.pins.now args.mark.now pre.0 (λ e l. omega (arith, heavy e)) args.how.now args.seen.now args.z pre.2 args.sums.now args.flow.now pre.1 pre.3 push-from.ensures.1, mend.ensures)
+    (thread_carried args.first.now args.mods.now args.weight.now args.nets.now args.at.now args.pins.now args.mark.now pre.0 (λ e l. omega (arith, heavy e)) args.how.now args.seen.now args.z pre.2 args.sums.now args.flow.now pre.1 pre.3 push-from.ensures.1, mend.ensures)

@@ -3,8 +3,8 @@ use mathlib.Core.Path.{sym, ap, ◌∙◌}
 use Prim.Native.Nat.{ℕ}
 use native.Mathlib.Omega.{arith}
 use lib.ListN.{get_or}
-use Rattle.flow.proofs.Sets.{in-length}
-use Rattle.climb.proofs.Threads.{thread-leave-room, thread-leave-undo, leave-lower}
+use Rattle.flow.proofs.Sets.{in_length}
+use Rattle.climb.proofs.Threads.{thread_leave_room, thread_leave_undo, leave_lower}
 use Rattle.climb.proofs.ways.leave.Goals as goal
 use Rattle.climb.proofs.ways.leave.Goals.{then-step_kind-eq0, else-step_kind-eq0}
 
@@ -13,13 +13,13 @@ offset_bounds-how-u c =
     let args = c.args in
     let pre = c.requires in
     let good = c.well_formed in
-    record { fits = omega (arith, in-length args.how.now args.u pre.0.tip, good) }
+    record { fits = omega (arith, in_length args.how.now args.u pre.0.tip, good) }
 
 pub bounds-how-u : goal.bounds-how-u
 bounds-how-u c =
     let args = c.args in
     let pre = c.requires in
-    in-length args.how.now args.u pre.0.tip
+    in_length args.how.now args.u pre.0.tip
 
 pub offset_bounds-nets-a : goal.offset_bounds-nets-a
 offset_bounds-nets-a c =
@@ -55,13 +55,13 @@ offset_bounds-how-u-2 c =
     let args = c.args in
     let pre = c.requires in
     let good = c.well_formed in
-    record { fits = omega (arith, in-length args.how.now args.u pre.0.tip, good) }
+    record { fits = omega (arith, in_length args.how.now args.u pre.0.tip, good) }
 
 pub bounds-how-u-2 : goal.bounds-how-u-2
 bounds-how-u-2 c =
     let args = c.args in
     let pre = c.requires in
-    in-length args.how.now args.u pre.0.tip
+    in_length args.how.now args.u pre.0.tip
 
 pub offset_bounds-mods-a : goal.offset_bounds-mods-a
 offset_bounds-mods-a c =
@@ -88,8 +88,8 @@ returns c =
     let step-kind = c.step_kind in
     let p-is = c.wide.ensures ∙ ap (λ (i : ℕ). get_or args.mods.now i 0) left-pin.ensures in (
       elim c.if-step_kind-eq0.branch [
-        | then-step_kind-eq0 w ↦ thread-leave-room args.mods.now args.nets.now args.mark.now args.how.now args.seen.now args.count args.u pre.0 pre.1 p-is (w.wide-n.ensures ∙ ap (λ (i : ℕ). get_or args.nets.now i 0) left-pin.ensures) w.seen-is (sym step-kind.ensures ∙ w.if-step_kind-eq0.true)
-        | else-step_kind-eq0 w ↦ thread-leave-undo args.mods.now args.nets.now args.mark.now args.how.now args.seen.now args.count args.u pre.0 pre.1 p-is w.seen-is
+        | then-step_kind-eq0 w ↦ thread_leave_room args.mods.now args.nets.now args.mark.now args.how.now args.seen.now args.count args.u pre.0 pre.1 p-is (w.wide-n.ensures ∙ ap (λ (i : ℕ). get_or args.nets.now i 0) left-pin.ensures) w.seen-is (sym step-kind.ensures ∙ w.if-step_kind-eq0.true)
+        | else-step_kind-eq0 w ↦ thread_leave_undo args.mods.now args.nets.now args.mark.now args.how.now args.seen.now args.count args.u pre.0 pre.1 p-is w.seen-is
       ],
-      leave-lower args.mods.now args.nets.now args.mark.now args.how.now args.seen.now args.count args.u pre.0 pre.1 p-is,
+      leave_lower args.mods.now args.nets.now args.mark.now args.how.now args.seen.now args.count args.u pre.0 pre.1 p-is,
     )

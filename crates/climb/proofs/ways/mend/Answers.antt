@@ -1,5 +1,5 @@
 -- `climb::ways::mend` meets its contract: the way is as it was, or has one step in place of another. Assumes nothing.
-use Rattle.climb.proofs.Threads.{lay-mods, lay-nets}
+use Rattle.climb.proofs.Threads.{lay_mods, lay_nets}
 use Rattle.climb.specs.Climb.{Thread}
 use lib.ListN.{length}
 use Prim.Native.Nat.{ℕ}
@@ -30,4 +30,4 @@ swap-requires c =
     let if3 = c.if-mark-v-eq1 in
     let if4 = c.if-x-eq0 in
     let args = c.args in
-    rw instead.ensures.0 (pre.2, omega (arith, if2.false), if3.false, instead.ensures.1 if4.false, pre.3, lay-mods args.first.now args.mods.now args.weight.now args.nets.now args.at.now args.pins.now args.mark.now pre.0, lay-nets args.first.now args.mods.now args.weight.now args.nets.now args.at.now args.pins.now args.mark.now pre.0, omega (arith, pre.0.few-modules))
+    rw instead.ensures.0 (pre.2, omega (arith, if2.false), if3.false, instead.ensures.1 if4.false, pre.3, lay_mods args.first.now args.mods.now args.weight.now args.nets.now args.at.now args.pins.now args.mark.now pre.0, lay_nets args.first.now args.mods.now args.weight.now args.nets.now args.at.now args.pins.now args.mark.now pre.0, omega (arith, pre.0.few_modules))

@@ -1,5 +1,5 @@
 -- `flow::engine::far` meets its contract. Assumes nothing.
-use Rattle.flow.proofs.WholeLaws.{far-of}
+use Rattle.flow.proofs.WholeLaws.{far_of}
 use Rattle.flow.proofs.engine.far.Goals as goal
 
 pub search-requires : goal.search-requires
@@ -12,4 +12,4 @@ returns c =
     let args = c.args in
     let pre = c.requires in
     let searched = c.search in
-    far-of args.first.now args.mods.now args.weight.now args.nets.now args.at.now args.pins.now args.mark.now pre.0.laid pre.0.tables pre.0.pins args.sums.now args.flow.now pre.1 _ searched.ensures
+    far_of args.first.now args.mods.now args.weight.now args.nets.now args.at.now args.pins.now args.mark.now pre.0.laid pre.0.tables pre.0.pins args.sums.now args.flow.now pre.1 _ searched.ensures

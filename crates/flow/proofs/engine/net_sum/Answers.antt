@@ -7,12 +7,12 @@ use borrow.Author.Rules.{rules}
 use lib.IntN.{pos}
 use lib.ListN.{get_or, take, drop}
 use Rattle.line.specs.Flow.{sent, total_sent}
-use Rattle.flow.proofs.RaiseLaws.{sum-none, sum_more, sum_below}
+use Rattle.flow.proofs.RaiseLaws.{sum_none, sum_more, sum_below}
 use Rattle.flow.proofs.Numbers.{read_back}
 use Rattle.flow.proofs.engine.net_sum.Goals as goal
 
 pub loop-i-init : goal.loop-i-init
-loop-i-init c = (omega arith, omega arith, sym (sum-none c.args.flow.now c.args.lo))
+loop-i-init c = (omega arith, omega arith, sym (sum_none c.args.flow.now c.args.lo))
 
 pub overflow_add-s : goal.overflow_add-s
 overflow_add-s c =

@@ -3,7 +3,7 @@ use mathlib.Core.Path.{refl, ◌∙◌}
 use native.Mathlib.Nat.{not-suc-le-zero}
 use native.Mathlib.Omega.{arith}
 use lib.ListN.{length-set}
-use Rattle.flow.proofs.RaiseLaws.{summed-more, part_at}
+use Rattle.flow.proofs.RaiseLaws.{summed_more, part_at}
 use Rattle.flow.proofs.engine.net_sums.Goals as goal
 
 pub loop-n-init : goal.loop-n-init
@@ -52,7 +52,7 @@ loop-n-preserved c =
     let args = c.args in
     let loop = c.loop-n in
     let loop-test = c.loop-n-test in
-    (omega (arith, length-set loop.sums loop.n c.net_sum.result, loop-test.true), length-set loop.sums loop.n c.net_sum.result ∙ loop.invariant.1, summed-more args.first.now args.flow.now loop.sums loop.n loop-test.true (c.net_sum.ensures ∙ part_at args.first.now args.flow.now loop.n c.wide-lo.ensures c.wide-hi.ensures) loop.invariant.2)
+    (omega (arith, length-set loop.sums loop.n c.net_sum.result, loop-test.true), length-set loop.sums loop.n c.net_sum.result ∙ loop.invariant.1, summed_more args.first.now args.flow.now loop.sums loop.n loop-test.true (c.net_sum.ensures ∙ part_at args.first.now args.flow.now loop.n c.wide-lo.ensures c.wide-hi.ensures) loop.invariant.2)
 
 pub shape_of-sums : goal.shape_of-sums
 shape_of-sums c = c.loop-n.invariant.1

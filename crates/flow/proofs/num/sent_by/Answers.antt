@@ -1,5 +1,5 @@
 -- `flow::num::sent_by` meets its contract. Assumes nothing.
-use Rattle.flow.proofs.Numbers.{cast_ok, cast_is, cast-not}
+use Rattle.flow.proofs.Numbers.{cast_ok, cast_is, cast_not}
 use Rattle.flow.proofs.num.sent_by.Goals as goal
 
 pub overflow_cast-result : goal.overflow_cast-result
@@ -9,4 +9,4 @@ pub returns-then-f-gt0 : goal.returns-then-f-gt0
 returns-then-f-gt0 c = cast_is c.args.f c.ranges.f c.if-f-gt0.true
 
 pub returns-else-f-gt0 : goal.returns-else-f-gt0
-returns-else-f-gt0 c = cast-not c.args.f c.ranges.f c.if-f-gt0.false
+returns-else-f-gt0 c = cast_not c.args.f c.ranges.f c.if-f-gt0.false

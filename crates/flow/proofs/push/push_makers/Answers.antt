@@ -4,12 +4,12 @@ use Prim.Native.Nat.{ℕ}
 use native.Mathlib.Nat.{le_antisymm}
 use native.Mathlib.Omega.{arith}
 use Rattle.flow.specs.Raise.{Rounded}
-use Rattle.flow.proofs.RaiseLaws.{round-start, round-skip, round-push}
+use Rattle.flow.proofs.RaiseLaws.{round_start, round_skip, round_push}
 use Rattle.flow.proofs.push.push_makers.Goals as goal
 use Rattle.flow.proofs.push.push_makers.Goals.{then-mark-z-eq2+then-how-z-ne0, then-mark-z-eq2+else-how-z-ne0, else-mark-z-eq2}
 
 pub loop-z-init : goal.loop-z-init
-loop-z-init c = (omega arith, round-start _ _ _ _ _ _ _, refl, refl)
+loop-z-init c = (omega arith, round_start _ _ _ _ _ _ _, refl, refl)
 
 pub offset_bounds-how-z : goal.offset_bounds-how-z
 offset_bounds-how-z c =
@@ -34,10 +34,10 @@ loop-z-preserved c =
     let args = c.args in
     let loop = c.loop-z in
     let after = c.if-mark-z-eq2 in
-    let skip = round-skip args.mods.now args.weight.now args.nets.now args.mark.now args.how.now args.sums.now args.flow.now loop.z loop.any loop.sums loop.flow loop.invariant.1 in (
+    let skip = round_skip args.mods.now args.weight.now args.nets.now args.mark.now args.how.now args.sums.now args.flow.now loop.z loop.any loop.sums loop.flow loop.invariant.1 in (
       omega arith,
       elim after.branch [
-        | then-mark-z-eq2+then-how-z-ne0 w ↦ rw (w.sums-is, w.flow-is, w.any-is) (round-push args.mods.now args.weight.now args.nets.now args.mark.now args.how.now args.sums.now args.flow.now loop.z loop.any loop.sums loop.flow loop.invariant.1 _ _ c.loop-z-test.true w.if-mark-z-eq2.true (let n = w.if-how-z-ne0.true in omega arith) w.push_from.ensures.1)
+        | then-mark-z-eq2+then-how-z-ne0 w ↦ rw (w.sums-is, w.flow-is, w.any-is) (round_push args.mods.now args.weight.now args.nets.now args.mark.now args.how.now args.sums.now args.flow.now loop.z loop.any loop.sums loop.flow loop.invariant.1 _ _ c.loop-z-test.true w.if-mark-z-eq2.true (let n = w.if-how-z-ne0.true in omega arith) w.push_from.ensures.1)
         | then-mark-z-eq2+else-how-z-ne0 w ↦ rw (w.sums-is, w.flow-is, w.any-is) (skip (λ e h. let z = w.if-how-z-ne0.false in absurd (omega arith)))
         | else-mark-z-eq2 w ↦ rw (w.sums-is, w.flow-is, w.any-is) (skip (λ e h. w.if-mark-z-eq2.false e))
       ],

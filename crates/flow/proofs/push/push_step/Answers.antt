@@ -7,34 +7,34 @@ use lib.IntN.{pos, neg_ℤ, ◌+ℤ◌}
 use lib.ListN.{get_or, length-set}
 use mir.Val.{to_z, of_z}
 use mir.Syntax.{w32}
-use Rattle.line.proofs.Push.{more-sent, less-sent}
+use Rattle.line.proofs.Push.{more_sent, less_sent}
 use Rattle.line.specs.Flow.{sent}
 use Rattle.flow.specs.Cards.{Small}
 use Rattle.flow.specs.Search.{left, entered}
-use Rattle.flow.proofs.PushLaws.{plus-back, minus-back, push-code, sums-code}
-use Rattle.flow.proofs.Numbers.{read_back, small-back}
+use Rattle.flow.proofs.PushLaws.{plus_back, minus_back, push_code, sums_code}
+use Rattle.flow.proofs.Numbers.{read_back, small_back}
 use Rattle.flow.proofs.push.push_step.Goals as goal
 
 pub offset_bounds-nets-a : goal.offset_bounds-nets-a
-offset_bounds-nets-a c = record { fits = omega (arith, c.left_pin-a.ensures, c.requires.in-a, c.requires.few) }
+offset_bounds-nets-a c = record { fits = omega (arith, c.left_pin-a.ensures, c.requires.in_a, c.requires.few) }
 
 pub bounds-nets-a : goal.bounds-nets-a
-bounds-nets-a c = omega (arith, c.left_pin-a.ensures, c.requires.in-a, c.requires.nts)
+bounds-nets-a c = omega (arith, c.left_pin-a.ensures, c.requires.in_a, c.requires.nts)
 
 pub offset_bounds-flow-a : goal.offset_bounds-flow-a
 offset_bounds-flow-a c =
     let pre = c.requires in
-    record { fits = omega (arith, c.left_pin-a.ensures, pre.in-a, pre.few) }
+    record { fits = omega (arith, c.left_pin-a.ensures, pre.in_a, pre.few) }
 
 pub slice_copy_out-plus : goal.slice_copy_out-plus
-slice_copy_out-plus c = omega (arith, c.left_pin-a.ensures, c.requires.in-a)
+slice_copy_out-plus c = omega (arith, c.left_pin-a.ensures, c.requires.in_a)
 
 pub plus-more-requires : goal.plus-more-requires
 plus-more-requires c =
     let args = c.args in
     let pre = c.requires in
     let left-pin = c.left_pin-a in
-    (small-back (get_or args.flow.now left-pin.result (pos 0)) (search rules) (subst (λ (i : ℕ). Small (get_or args.flow.now i (pos 0))) (sym left-pin.ensures) pre.small-a), pre.amount)
+    (small_back (get_or args.flow.now left-pin.result (pos 0)) (search rules) (subst (λ (i : ℕ). Small (get_or args.flow.now i (pos 0))) (sym left-pin.ensures) pre.small_a), pre.amount)
 
 pub offset_bounds-flow-b : goal.offset_bounds-flow-b
 offset_bounds-flow-b c =
@@ -50,19 +50,19 @@ minus-less-requires c =
     let args = c.args in
     let pre = c.requires in
     let entered-pin = c.entered_pin-b in
-    (small-back (get_or args.flow.now entered-pin.result (pos 0)) (search rules) (subst (λ (i : ℕ). Small (get_or args.flow.now i (pos 0))) (sym entered-pin.ensures) pre.small_b), pre.amount)
+    (small_back (get_or args.flow.now entered-pin.result (pos 0)) (search rules) (subst (λ (i : ℕ). Small (get_or args.flow.now i (pos 0))) (sym entered-pin.ensures) pre.small_b), pre.amount)
 
 pub offset_bounds-flow-a-2 : goal.offset_bounds-flow-a-2
 offset_bounds-flow-a-2 c =
     let pre = c.requires in
     let left-pin = c.left_pin-a in
-    record { fits = omega (arith, left-pin.ensures, pre.in-a, pre.few) }
+    record { fits = omega (arith, left-pin.ensures, pre.in_a, pre.few) }
 
 pub slice_copy_out-sent_by : goal.slice_copy_out-sent_by
 slice_copy_out-sent_by c =
     let pre = c.requires in
     let left-pin = c.left_pin-a in
-    omega (arith, left-pin.ensures, pre.in-a)
+    omega (arith, left-pin.ensures, pre.in_a)
 
 pub offset_bounds-flow-b-2 : goal.offset_bounds-flow-b-2
 offset_bounds-flow-b-2 c =
@@ -82,7 +82,7 @@ overflow_add-before c =
     let pre = c.requires in
     let left-pin = c.left_pin-a in
     let entered-pin = c.entered_pin-b in
-    record { fits = omega (arith, (c.sent_by.ensures ∙ ap sent (read_back (get_or args.flow.now left-pin.result (pos 0)) (search rules)) ∙ (ap (λ (i : ℕ). sent (get_or args.flow.now i (pos 0))) left-pin.ensures)), (c.sent_by-2.ensures ∙ ap sent (read_back (get_or args.flow.now entered-pin.result (pos 0)) (search rules)) ∙ (ap (λ (i : ℕ). sent (get_or args.flow.now i (pos 0))) entered-pin.ensures)), pre.small-a.sent, pre.small_b.sent) }
+    record { fits = omega (arith, (c.sent_by.ensures ∙ ap sent (read_back (get_or args.flow.now left-pin.result (pos 0)) (search rules)) ∙ (ap (λ (i : ℕ). sent (get_or args.flow.now i (pos 0))) left-pin.ensures)), (c.sent_by-2.ensures ∙ ap sent (read_back (get_or args.flow.now entered-pin.result (pos 0)) (search rules)) ∙ (ap (λ (i : ℕ). sent (get_or args.flow.now i (pos 0))) entered-pin.ensures)), pre.small_a.sent, pre.small_b.sent) }
 
 pub overflow_add-after : goal.overflow_add-after
 overflow_add-after c =
@@ -94,7 +94,7 @@ overflow_add-after c =
     let plus = c.plus-more in
     let minus = c.minus-less in
     let sent-by = c.sent_by in
-    record { fits = omega (arith, (sent-by.ensures ∙ ap sent (read_back (get_or args.flow.now left-pin.result (pos 0)) (search rules)) ∙ (ap (λ (i : ℕ). sent (get_or args.flow.now i (pos 0))) left-pin.ensures)), (c.sent_by-2.ensures ∙ ap sent (read_back (get_or args.flow.now entered-pin.result (pos 0)) (search rules)) ∙ (ap (λ (i : ℕ). sent (get_or args.flow.now i (pos 0))) entered-pin.ensures)), (c.sent_by-3.ensures ∙ ap sent (plus-back (get_or args.flow.now left-pin.result (pos 0)) args.d (search rules) (subst (λ (i : ℕ). Small (get_or args.flow.now i (pos 0))) (sym left-pin.ensures) pre.small-a) pre.amount plus.ensures) ∙ ap (λ (i : ℕ). sent (get_or args.flow.now i (pos 0) +ℤ pos args.d)) left-pin.ensures), (c.sent_by-4.ensures ∙ ap sent (minus-back (get_or args.flow.now entered-pin.result (pos 0)) args.d (search rules) (subst (λ (i : ℕ). Small (get_or args.flow.now i (pos 0))) (sym entered-pin.ensures) pre.small_b) pre.amount minus.ensures) ∙ ap (λ (i : ℕ). sent (get_or args.flow.now i (pos 0) +ℤ neg_ℤ (pos args.d))) entered-pin.ensures), more-sent (get_or args.flow.now (left args.x) (pos 0)) args.d, less-sent (get_or args.flow.now (entered args.x) (pos 0)) args.d, pre.small-a.sent, pre.small_b.sent, pre.amount, pre.sum, pre.held, ap (λ (k : ℕ). get_or args.sums.now k 0) ((wide.ensures ∙ ap (λ (k : ℕ). get_or args.nets.now k 0) left-pin.ensures))) }
+    record { fits = omega (arith, (sent-by.ensures ∙ ap sent (read_back (get_or args.flow.now left-pin.result (pos 0)) (search rules)) ∙ (ap (λ (i : ℕ). sent (get_or args.flow.now i (pos 0))) left-pin.ensures)), (c.sent_by-2.ensures ∙ ap sent (read_back (get_or args.flow.now entered-pin.result (pos 0)) (search rules)) ∙ (ap (λ (i : ℕ). sent (get_or args.flow.now i (pos 0))) entered-pin.ensures)), (c.sent_by-3.ensures ∙ ap sent (plus_back (get_or args.flow.now left-pin.result (pos 0)) args.d (search rules) (subst (λ (i : ℕ). Small (get_or args.flow.now i (pos 0))) (sym left-pin.ensures) pre.small_a) pre.amount plus.ensures) ∙ ap (λ (i : ℕ). sent (get_or args.flow.now i (pos 0) +ℤ pos args.d)) left-pin.ensures), (c.sent_by-4.ensures ∙ ap sent (minus_back (get_or args.flow.now entered-pin.result (pos 0)) args.d (search rules) (subst (λ (i : ℕ). Small (get_or args.flow.now i (pos 0))) (sym entered-pin.ensures) pre.small_b) pre.amount minus.ensures) ∙ ap (λ (i : ℕ). sent (get_or args.flow.now i (pos 0) +ℤ neg_ℤ (pos args.d))) entered-pin.ensures), more_sent (get_or args.flow.now (left args.x) (pos 0)) args.d, less_sent (get_or args.flow.now (entered args.x) (pos 0)) args.d, pre.small_a.sent, pre.small_b.sent, pre.amount, pre.sum, pre.held, ap (λ (k : ℕ). get_or args.sums.now k 0) ((wide.ensures ∙ ap (λ (k : ℕ). get_or args.nets.now k 0) left-pin.ensures))) }
 
 pub offset_bounds-sums-n : goal.offset_bounds-sums-n
 offset_bounds-sums-n c =
@@ -123,7 +123,7 @@ overflow_add-sums c =
     let plus = c.plus-more in
     let minus = c.minus-less in
     let sent-by = c.sent_by in
-    record { fits = omega (arith, (sent-by.ensures ∙ ap sent (read_back (get_or args.flow.now left-pin.result (pos 0)) (search rules)) ∙ (ap (λ (i : ℕ). sent (get_or args.flow.now i (pos 0))) left-pin.ensures)), (c.sent_by-2.ensures ∙ ap sent (read_back (get_or args.flow.now entered-pin.result (pos 0)) (search rules)) ∙ (ap (λ (i : ℕ). sent (get_or args.flow.now i (pos 0))) entered-pin.ensures)), (c.sent_by-3.ensures ∙ ap sent (plus-back (get_or args.flow.now left-pin.result (pos 0)) args.d (search rules) (subst (λ (i : ℕ). Small (get_or args.flow.now i (pos 0))) (sym left-pin.ensures) pre.small-a) pre.amount plus.ensures) ∙ ap (λ (i : ℕ). sent (get_or args.flow.now i (pos 0) +ℤ pos args.d)) left-pin.ensures), (c.sent_by-4.ensures ∙ ap sent (minus-back (get_or args.flow.now entered-pin.result (pos 0)) args.d (search rules) (subst (λ (i : ℕ). Small (get_or args.flow.now i (pos 0))) (sym entered-pin.ensures) pre.small_b) pre.amount minus.ensures) ∙ ap (λ (i : ℕ). sent (get_or args.flow.now i (pos 0) +ℤ neg_ℤ (pos args.d))) entered-pin.ensures), more-sent (get_or args.flow.now (left args.x) (pos 0)) args.d, less-sent (get_or args.flow.now (entered args.x) (pos 0)) args.d, pre.small-a.sent, pre.small_b.sent, pre.amount, pre.sum, pre.held, ap (λ (k : ℕ). get_or args.sums.now k 0) ((wide.ensures ∙ ap (λ (k : ℕ). get_or args.nets.now k 0) left-pin.ensures))) }
+    record { fits = omega (arith, (sent-by.ensures ∙ ap sent (read_back (get_or args.flow.now left-pin.result (pos 0)) (search rules)) ∙ (ap (λ (i : ℕ). sent (get_or args.flow.now i (pos 0))) left-pin.ensures)), (c.sent_by-2.ensures ∙ ap sent (read_back (get_or args.flow.now entered-pin.result (pos 0)) (search rules)) ∙ (ap (λ (i : ℕ). sent (get_or args.flow.now i (pos 0))) entered-pin.ensures)), (c.sent_by-3.ensures ∙ ap sent (plus_back (get_or args.flow.now left-pin.result (pos 0)) args.d (search rules) (subst (λ (i : ℕ). Small (get_or args.flow.now i (pos 0))) (sym left-pin.ensures) pre.small_a) pre.amount plus.ensures) ∙ ap (λ (i : ℕ). sent (get_or args.flow.now i (pos 0) +ℤ pos args.d)) left-pin.ensures), (c.sent_by-4.ensures ∙ ap sent (minus_back (get_or args.flow.now entered-pin.result (pos 0)) args.d (search rules) (subst (λ (i : ℕ). Small (get_or args.flow.now i (pos 0))) (sym entered-pin.ensures) pre.small_b) pre.amount minus.ensures) ∙ ap (λ (i : ℕ). sent (get_or args.flow.now i (pos 0) +ℤ neg_ℤ (pos args.d))) entered-pin.ensures), more_sent (get_or args.flow.now (left args.x) (pos 0)) args.d, less_sent (get_or args.flow.now (entered args.x) (pos 0)) args.d, pre.small_a.sent, pre.small_b.sent, pre.amount, pre.sum, pre.held, ap (λ (k : ℕ). get_or args.sums.now k 0) ((wide.ensures ∙ ap (λ (k : ℕ). get_or args.nets.now k 0) left-pin.ensures))) }
 
 pub overflow_sub-sums : goal.overflow_sub-sums
 overflow_sub-sums c =
@@ -135,7 +135,7 @@ overflow_sub-sums c =
     let plus = c.plus-more in
     let minus = c.minus-less in
     let sent-by = c.sent_by in
-    omega (arith, (sent-by.ensures ∙ ap sent (read_back (get_or args.flow.now left-pin.result (pos 0)) (search rules)) ∙ (ap (λ (i : ℕ). sent (get_or args.flow.now i (pos 0))) left-pin.ensures)), (c.sent_by-2.ensures ∙ ap sent (read_back (get_or args.flow.now entered-pin.result (pos 0)) (search rules)) ∙ (ap (λ (i : ℕ). sent (get_or args.flow.now i (pos 0))) entered-pin.ensures)), (c.sent_by-3.ensures ∙ ap sent (plus-back (get_or args.flow.now left-pin.result (pos 0)) args.d (search rules) (subst (λ (i : ℕ). Small (get_or args.flow.now i (pos 0))) (sym left-pin.ensures) pre.small-a) pre.amount plus.ensures) ∙ ap (λ (i : ℕ). sent (get_or args.flow.now i (pos 0) +ℤ pos args.d)) left-pin.ensures), (c.sent_by-4.ensures ∙ ap sent (minus-back (get_or args.flow.now entered-pin.result (pos 0)) args.d (search rules) (subst (λ (i : ℕ). Small (get_or args.flow.now i (pos 0))) (sym entered-pin.ensures) pre.small_b) pre.amount minus.ensures) ∙ ap (λ (i : ℕ). sent (get_or args.flow.now i (pos 0) +ℤ neg_ℤ (pos args.d))) entered-pin.ensures), more-sent (get_or args.flow.now (left args.x) (pos 0)) args.d, less-sent (get_or args.flow.now (entered args.x) (pos 0)) args.d, pre.small-a.sent, pre.small_b.sent, pre.amount, pre.sum, pre.held, ap (λ (k : ℕ). get_or args.sums.now k 0) ((wide.ensures ∙ ap (λ (k : ℕ). get_or args.nets.now k 0) left-pin.ensures)))
+    omega (arith, (sent-by.ensures ∙ ap sent (read_back (get_or args.flow.now left-pin.result (pos 0)) (search rules)) ∙ (ap (λ (i : ℕ). sent (get_or args.flow.now i (pos 0))) left-pin.ensures)), (c.sent_by-2.ensures ∙ ap sent (read_back (get_or args.flow.now entered-pin.result (pos 0)) (search rules)) ∙ (ap (λ (i : ℕ). sent (get_or args.flow.now i (pos 0))) entered-pin.ensures)), (c.sent_by-3.ensures ∙ ap sent (plus_back (get_or args.flow.now left-pin.result (pos 0)) args.d (search rules) (subst (λ (i : ℕ). Small (get_or args.flow.now i (pos 0))) (sym left-pin.ensures) pre.small_a) pre.amount plus.ensures) ∙ ap (λ (i : ℕ). sent (get_or args.flow.now i (pos 0) +ℤ pos args.d)) left-pin.ensures), (c.sent_by-4.ensures ∙ ap sent (minus_back (get_or args.flow.now entered-pin.result (pos 0)) args.d (search rules) (subst (λ (i : ℕ). Small (get_or args.flow.now i (pos 0))) (sym entered-pin.ensures) pre.small_b) pre.amount minus.ensures) ∙ ap (λ (i : ℕ). sent (get_or args.flow.now i (pos 0) +ℤ neg_ℤ (pos args.d))) entered-pin.ensures), more_sent (get_or args.flow.now (left args.x) (pos 0)) args.d, less_sent (get_or args.flow.now (entered args.x) (pos 0)) args.d, pre.small_a.sent, pre.small_b.sent, pre.amount, pre.sum, pre.held, ap (λ (k : ℕ). get_or args.sums.now k 0) ((wide.ensures ∙ ap (λ (k : ℕ). get_or args.nets.now k 0) left-pin.ensures)))
 
 pub offset_bounds-sums-n-2 : goal.offset_bounds-sums-n-2
 offset_bounds-sums-n-2 c =
@@ -158,13 +158,13 @@ pub offset_bounds-flow-a-3 : goal.offset_bounds-flow-a-3
 offset_bounds-flow-a-3 c =
     let pre = c.requires in
     let left-pin = c.left_pin-a in
-    record { fits = omega (arith, left-pin.ensures, pre.in-a, pre.few) }
+    record { fits = omega (arith, left-pin.ensures, pre.in_a, pre.few) }
 
 pub bounds-flow-a : goal.bounds-flow-a
 bounds-flow-a c =
     let pre = c.requires in
     let left-pin = c.left_pin-a in
-    omega (arith, left-pin.ensures, pre.in-a)
+    omega (arith, left-pin.ensures, pre.in_a)
 
 pub offset_bounds-flow-b-3 : goal.offset_bounds-flow-b-3
 offset_bounds-flow-b-3 c =
@@ -194,4 +194,4 @@ returns c =
     let plus = c.plus-more in
     let minus = c.minus-less in
     let sent-by = c.sent_by in
-    (push-code args.flow.now (left args.x) (entered args.x) args.d left-pin.ensures entered-pin.ensures pre.apart (plus-back (get_or args.flow.now left-pin.result (pos 0)) args.d (search rules) (subst (λ (i : ℕ). Small (get_or args.flow.now i (pos 0))) (sym left-pin.ensures) pre.small-a) pre.amount plus.ensures) (minus-back (get_or args.flow.now entered-pin.result (pos 0)) args.d (search rules) (subst (λ (i : ℕ). Small (get_or args.flow.now i (pos 0))) (sym entered-pin.ensures) pre.small_b) pre.amount minus.ensures), sums-code args.sums.now ((wide.ensures ∙ ap (λ (k : ℕ). get_or args.nets.now k 0) left-pin.ensures)) (omega (arith, (sent-by.ensures ∙ ap sent (read_back (get_or args.flow.now left-pin.result (pos 0)) (search rules)) ∙ (ap (λ (i : ℕ). sent (get_or args.flow.now i (pos 0))) left-pin.ensures)), (c.sent_by-2.ensures ∙ ap sent (read_back (get_or args.flow.now entered-pin.result (pos 0)) (search rules)) ∙ (ap (λ (i : ℕ). sent (get_or args.flow.now i (pos 0))) entered-pin.ensures)), (c.sent_by-3.ensures ∙ ap sent (plus-back (get_or args.flow.now left-pin.result (pos 0)) args.d (search rules) (subst (λ (i : ℕ). Small (get_or args.flow.now i (pos 0))) (sym left-pin.ensures) pre.small-a) pre.amount plus.ensures) ∙ ap (λ (i : ℕ). sent (get_or args.flow.now i (pos 0) +ℤ pos args.d)) left-pin.ensures), (c.sent_by-4.ensures ∙ ap sent (minus-back (get_or args.flow.now entered-pin.result (pos 0)) args.d (search rules) (subst (λ (i : ℕ). Small (get_or args.flow.now i (pos 0))) (sym entered-pin.ensures) pre.small_b) pre.amount minus.ensures) ∙ ap (λ (i : ℕ). sent (get_or args.flow.now i (pos 0) +ℤ neg_ℤ (pos args.d))) entered-pin.ensures), more-sent (get_or args.flow.now (left args.x) (pos 0)) args.d, less-sent (get_or args.flow.now (entered args.x) (pos 0)) args.d, pre.small-a.sent, pre.small_b.sent, pre.amount, pre.sum, pre.held, ap (λ (k : ℕ). get_or args.sums.now k 0) ((wide.ensures ∙ ap (λ (k : ℕ). get_or args.nets.now k 0) left-pin.ensures)))))
+    (push_code args.flow.now (left args.x) (entered args.x) args.d left-pin.ensures entered-pin.ensures pre.apart (plus_back (get_or args.flow.now left-pin.result (pos 0)) args.d (search rules) (subst (λ (i : ℕ). Small (get_or args.flow.now i (pos 0))) (sym left-pin.ensures) pre.small_a) pre.amount plus.ensures) (minus_back (get_or args.flow.now entered-pin.result (pos 0)) args.d (search rules) (subst (λ (i : ℕ). Small (get_or args.flow.now i (pos 0))) (sym entered-pin.ensures) pre.small_b) pre.amount minus.ensures), sums_code args.sums.now ((wide.ensures ∙ ap (λ (k : ℕ). get_or args.nets.now k 0) left-pin.ensures)) (omega (arith, (sent-by.ensures ∙ ap sent (read_back (get_or args.flow.now left-pin.result (pos 0)) (search rules)) ∙ (ap (λ (i : ℕ). sent (get_or args.flow.now i (pos 0))) left-pin.ensures)), (c.sent_by-2.ensures ∙ ap sent (read_back (get_or args.flow.now entered-pin.result (pos 0)) (search rules)) ∙ (ap (λ (i : ℕ). sent (get_or args.flow.now i (pos 0))) entered-pin.ensures)), (c.sent_by-3.ensures ∙ ap sent (plus_back (get_or args.flow.now left-pin.result (pos 0)) args.d (search rules) (subst (λ (i : ℕ). Small (get_or args.flow.now i (pos 0))) (sym left-pin.ensures) pre.small_a) pre.amount plus.ensures) ∙ ap (λ (i : ℕ). sent (get_or args.flow.now i (pos 0) +ℤ pos args.d)) left-pin.ensures), (c.sent_by-4.ensures ∙ ap sent (minus_back (get_or args.flow.now entered-pin.result (pos 0)) args.d (search rules) (subst (λ (i : ℕ). Small (get_or args.flow.now i (pos 0))) (sym entered-pin.ensures) pre.small_b) pre.amount minus.ensures) ∙ ap (λ (i : ℕ). sent (get_or args.flow.now i (pos 0) +ℤ neg_ℤ (pos args.d))) entered-pin.ensures), more_sent (get_or args.flow.now (left args.x) (pos 0)) args.d, less_sent (get_or args.flow.now (entered args.x) (pos 0)) args.d, pre.small_a.sent, pre.small_b.sent, pre.amount, pre.sum, pre.held, ap (λ (k : ℕ). get_or args.sums.now k 0) ((wide.ensures ∙ ap (λ (k : ℕ). get_or args.nets.now k 0) left-pin.ensures)))))

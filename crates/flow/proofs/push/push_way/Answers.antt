@@ -4,39 +4,39 @@ use Prim.Native.Nat.{ℕ}
 use native.Mathlib.Omega.{arith}
 use lib.ListN.{get_or}
 use Rattle.flow.specs.Search.{In, rank}
-use Rattle.flow.proofs.PushLaws.{way-start, way_step, way-done, rest-pushable}
-use Rattle.flow.proofs.Sets.{in-length}
+use Rattle.flow.proofs.PushLaws.{way_start, way_step, way_done, rest_pushable}
+use Rattle.flow.proofs.Sets.{in_length}
 use Rattle.flow.proofs.push.push_way.Goals as goal
 
 pub loop-u-init : goal.loop-u-init
-loop-u-init c = (c.requires.2.from, way-start _ _ _ _ _ _ _ _, refl, refl)
+loop-u-init c = (c.requires.2.from, way_start _ _ _ _ _ _ _ _, refl, refl)
 
 pub bounds-mark-u : goal.bounds-mark-u
 bounds-mark-u c =
     let args = c.args in
     let pre = c.requires in
     let loop = c.loop-u in
-    omega (arith, in-length args.how.now loop.u loop.invariant.0, pre.1.trail.lenw)
+    omega (arith, in_length args.how.now loop.u loop.invariant.0, pre.1.trail.lenw)
 
 pub offset_bounds-how-u : goal.offset_bounds-how-u
 offset_bounds-how-u c =
     let args = c.args in
     let good = c.well_formed in
     let loop = c.loop-u in
-    record { fits = omega (arith, in-length args.how.now loop.u loop.invariant.0, good) }
+    record { fits = omega (arith, in_length args.how.now loop.u loop.invariant.0, good) }
 
 pub bounds-how-u : goal.bounds-how-u
 bounds-how-u c =
     let args = c.args in
     let loop = c.loop-u in
-    in-length args.how.now loop.u loop.invariant.0
+    in_length args.how.now loop.u loop.invariant.0
 
 pub push_step-requires : goal.push_step-requires
 push_step-requires c =
     let args = c.args in
     let pre = c.requires in
     let loop = c.loop-u in
-    rest-pushable pre.0 args.mods.now args.nets.now args.mark.now args.how.now pre.1 loop.sums loop.flow args.d (loop.invariant.1 pre.0 pre.1 pre.2).0 loop.u (loop.invariant.1 pre.0 pre.1 pre.2).1.0 c.loop-u-test.true pre.3
+    rest_pushable pre.0 args.mods.now args.nets.now args.mark.now args.how.now pre.1 loop.sums loop.flow args.d (loop.invariant.1 pre.0 pre.1 pre.2).0 loop.u (loop.invariant.1 pre.0 pre.1 pre.2).1.0 c.loop-u-test.true pre.3
 
 pub offset_bounds-mods-left_pin : goal.offset_bounds-mods-left_pin
 offset_bounds-mods-left_pin c =
@@ -80,4 +80,4 @@ pub returns : goal.returns
 returns c =
     let args = c.args in
     let loop = c.loop-u in
-    way-done args.mods.now args.nets.now args.mark.now args.how.now args.sums.now args.flow.now args.d args.z loop.sums loop.flow loop.u loop.invariant.1 c.loop-u-test.false
+    way_done args.mods.now args.nets.now args.mark.now args.how.now args.sums.now args.flow.now args.d args.z loop.sums loop.flow loop.u loop.invariant.1 c.loop-u-test.false

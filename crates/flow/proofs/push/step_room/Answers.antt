@@ -6,7 +6,7 @@ use borrow.Author.Rules.{rules}
 use lib.IntN.{pos}
 use lib.ListN.{get_or}
 use Rattle.line.specs.Flow.{sent, taken}
-use Rattle.flow.proofs.PushLaws.{room-1, room-2, room_0}
+use Rattle.flow.proofs.PushLaws.{room_1, room_2, room_0}
 use Rattle.flow.proofs.Numbers.{read_back}
 use Rattle.flow.proofs.push.step_room.Goals as goal
 
@@ -29,7 +29,7 @@ pub returns-then-k-eq1 : goal.returns-then-k-eq1
 returns-then-k-eq1 c =
     let args = c.args in
     let left-pin = c.left_pin-a in
-    room-1 args.weight.now args.nets.now args.sums.now args.flow.now args.x (sym c.step_kind-k.ensures ∙ c.if-k-eq1.true) (c.taken_by.ensures ∙ (ap taken (read_back (get_or args.flow.now left-pin.result (pos 0)) (search rules)) ∙ ap (λ (i : ℕ). taken (get_or args.flow.now i (pos 0))) left-pin.ensures))
+    room_1 args.weight.now args.nets.now args.sums.now args.flow.now args.x (sym c.step_kind-k.ensures ∙ c.if-k-eq1.true) (c.taken_by.ensures ∙ (ap taken (read_back (get_or args.flow.now left-pin.result (pos 0)) (search rules)) ∙ ap (λ (i : ℕ). taken (get_or args.flow.now i (pos 0))) left-pin.ensures))
 
 pub offset_bounds-flow-b : goal.offset_bounds-flow-b
 offset_bounds-flow-b c =
@@ -44,7 +44,7 @@ returns-then-k-eq2 c =
     let args = c.args in
     let step-kind = c.step_kind-k in
     let entered-pin = c.entered_pin-b in
-    room-2 args.weight.now args.nets.now args.sums.now args.flow.now args.x (sym step-kind.ensures ∙ c.if-k-eq2.true) (c.sent_by.ensures ∙ (ap sent (read_back (get_or args.flow.now entered-pin.result (pos 0)) (search rules)) ∙ ap (λ (i : ℕ). sent (get_or args.flow.now i (pos 0))) entered-pin.ensures))
+    room_2 args.weight.now args.nets.now args.sums.now args.flow.now args.x (sym step-kind.ensures ∙ c.if-k-eq2.true) (c.sent_by.ensures ∙ (ap sent (read_back (get_or args.flow.now entered-pin.result (pos 0)) (search rules)) ∙ ap (λ (i : ℕ). sent (get_or args.flow.now i (pos 0))) entered-pin.ensures))
 
 pub offset_bounds-nets-a : goal.offset_bounds-nets-a
 offset_bounds-nets-a c =

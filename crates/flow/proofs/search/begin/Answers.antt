@@ -4,12 +4,12 @@ use Prim.Native.Nat.{ℕ}
 use native.Mathlib.Nat.{le_antisymm}
 use native.Mathlib.Omega.{arith}
 use Rattle.flow.specs.Search.{Begun}
-use Rattle.flow.proofs.SearchLaws.{begun-none, begun-yes, begun-no}
+use Rattle.flow.proofs.SearchLaws.{begun_none, begun_yes, begun_no}
 use Rattle.flow.proofs.search.begin.Goals as goal
 use Rattle.flow.proofs.search.begin.Goals.{then-mark-m, else-mark-m}
 
 pub loop-m-init : goal.loop-m-init
-loop-m-init c = (omega arith, begun-none _ _ _ _ c.requires.0 c.requires.1)
+loop-m-init c = (omega arith, begun_none _ _ _ _ c.requires.0 c.requires.1)
 
 pub loop-m-preserved : goal.loop-m-preserved
 loop-m-preserved c =
@@ -17,8 +17,8 @@ loop-m-preserved c =
     let loop-test = c.loop-m-test in (
       omega arith,
       elim c.if-mark-m.branch [
-        | then-mark-m w ↦ rw (w.queue-is, w.how-is, w.t-is) (begun-yes _ _ loop.invariant.1 loop-test.true w.if-mark-m.true w.pack.ensures w.narrow.ensures)
-        | else-mark-m w ↦ rw (w.queue-is, w.how-is, w.t-is) (begun-no _ _ loop.invariant.1 loop-test.true w.if-mark-m.false)
+        | then-mark-m w ↦ rw (w.queue-is, w.how-is, w.t-is) (begun_yes _ _ loop.invariant.1 loop-test.true w.if-mark-m.true w.pack.ensures w.narrow.ensures)
+        | else-mark-m w ↦ rw (w.queue-is, w.how-is, w.t-is) (begun_no _ _ loop.invariant.1 loop-test.true w.if-mark-m.false)
       ],
     )
 

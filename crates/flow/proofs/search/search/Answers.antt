@@ -3,7 +3,7 @@ use mathlib.Core.Path.{sym, ◌∙◌, subst}
 use Prim.Native.Nat.{ℕ}
 use native.Mathlib.Omega.{arith}
 use Rattle.flow.specs.Search.{Whole}
-use Rattle.flow.proofs.SearchLaws.{bfs-start, bfs-room, bfs-more, bfs-end, bfs-low}
+use Rattle.flow.proofs.SearchLaws.{bfs_start, bfs_room, bfs_more, bfs_end, bfs_low}
 use Rattle.flow.proofs.search.search.Goals as goal
 
 pub begin-tail-requires : goal.begin-tail-requires
@@ -18,7 +18,7 @@ loop-head-init c =
     let clear = c.clear in
     let start-mark = c.start_mark-k in
     let begin = c.begin-tail in
-    bfs-start args.back args.first.now args.mods.now args.weight.now args.flow.now args.sums.now args.nets.now args.mark.now (clear.ensures.0 ∙ pre.1.sn) clear.ensures.1 start-mark.ensures begin.ensures
+    bfs_start args.back args.first.now args.mods.now args.weight.now args.flow.now args.sums.now args.nets.now args.mark.now (clear.ensures.0 ∙ pre.1.sn) clear.ensures.1 start-mark.ensures begin.ensures
 
 pub offset_bounds-queue-head : goal.offset_bounds-queue-head
 offset_bounds-queue-head c =
@@ -35,7 +35,7 @@ visit-tail-requires c =
     let pre = c.requires in
     let loop = c.loop-head in
     let loop-test = c.loop-head-test in
-    ((subst (λ (k : ℕ). Whole args.first.now args.mods.now args.weight.now args.nets.now args.at.now args.pins.now args.sums.now args.flow.now k) (sym loop.invariant.len) pre.0), bfs-low _ _ _ _ _ _ _ _ loop.invariant loop-test.true c.wide-u.ensures, bfs-room _ _ _ _ _ _ _ _ loop.invariant pre.0.below pre.1.few, loop.invariant.seen, loop.invariant.lens)
+    ((subst (λ (k : ℕ). Whole args.first.now args.mods.now args.weight.now args.nets.now args.at.now args.pins.now args.sums.now args.flow.now k) (sym loop.invariant.len) pre.0), bfs_low _ _ _ _ _ _ _ _ loop.invariant loop-test.true c.wide-u.ensures, bfs_room _ _ _ _ _ _ _ _ loop.invariant pre.0.below pre.1.few, loop.invariant.seen, loop.invariant.lens)
 
 pub loop-head-smaller : goal.loop-head-smaller
 loop-head-smaller c =
@@ -51,7 +51,7 @@ loop-head-preserved c =
     let loop-test = c.loop-head-test in
     let wide = c.wide-u in
     let visit = c.visit-tail in
-    bfs-more args.back args.first.now args.mods.now args.weight.now args.flow.now args.sums.now args.nets.now args.mark.now args.at.now args.pins.now loop.invariant pre.0 loop-test.true wide.ensures visit.ensures
+    bfs_more args.back args.first.now args.mods.now args.weight.now args.flow.now args.sums.now args.nets.now args.mark.now args.at.now args.pins.now loop.invariant pre.0 loop-test.true wide.ensures visit.ensures
 
 pub shape_of-queue : goal.shape_of-queue
 shape_of-queue c =
@@ -72,4 +72,4 @@ shape_of-seen c =
 pub returns : goal.returns
 returns c =
     let args = c.args in
-    bfs-end args.back args.first.now args.mods.now args.weight.now args.flow.now args.sums.now args.nets.now args.mark.now c.loop-head.invariant c.loop-head-test.false
+    bfs_end args.back args.first.now args.mods.now args.weight.now args.flow.now args.sums.now args.nets.now args.mark.now c.loop-head.invariant c.loop-head-test.false

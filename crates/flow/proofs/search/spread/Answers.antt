@@ -1,7 +1,7 @@
 -- `flow::search::spread` meets its contract: the pins from `lo` up to `i` have been looked at (`Spread`). Assumes nothing.
-use Rattle.flow.proofs.SpreadLaws.{spread_none, spread-skip, spread-mark, ranked, marks}
-use Rattle.flow.proofs.Numbers.{read-sends, read-from}
-use Rattle.flow.proofs.Sets.{in-of, clash}
+use Rattle.flow.proofs.SpreadLaws.{spread_none, spread_skip, spread_mark, ranked, marks}
+use Rattle.flow.proofs.Numbers.{read_sends, read_from}
+use Rattle.flow.proofs.Sets.{in_of, clash}
 use Rattle.flow.specs.Search.{Spread}
 use lib.IntN.{pos}
 use mir.Syntax.{w32}
@@ -53,12 +53,12 @@ loop-i-preserved c =
         | then-how-m-eq0+then-g w ↦
             let fits : SFits w32 z = search rules in
             let f = marks c.requires.6 c.loop-i.invariant.2.grown m.result k w.if-how-m-eq0.true in
-            rw (w.queue-is, w.how-is, w.tail-is) (spread-mark _ _ _ _ _ _ _ c.loop-i.invariant.2 c.loop-i.invariant.0 (sym (w.picks-g.ensures ∙ read-sends c.args.scan.all c.args.scan.back z fits.sfits) ∙ w.if-g.true)
-            m.result m.ensures w.if-how-m-eq0.true f.place f.tail (w.way_from-from.ensures.0 ∙ read-from c.args.scan.back z c.args.scan.from c.args.scan.undo fits.sfits) (omega (arith, w.way_from-from.ensures.1, c.requires.3, c.loop-i-test.true)) w.pack.ensures (sym m.ensures))
+            rw (w.queue-is, w.how-is, w.tail-is) (spread_mark _ _ _ _ _ _ _ c.loop-i.invariant.2 c.loop-i.invariant.0 (sym (w.picks-g.ensures ∙ read_sends c.args.scan.all c.args.scan.back z fits.sfits) ∙ w.if-g.true)
+            m.result m.ensures w.if-how-m-eq0.true f.place f.tail (w.way_from-from.ensures.0 ∙ read_from c.args.scan.back z c.args.scan.from c.args.scan.undo fits.sfits) (omega (arith, w.way_from-from.ensures.1, c.requires.3, c.loop-i-test.true)) w.pack.ensures (sym m.ensures))
         | then-how-m-eq0+else-g w ↦
             let fits : SFits w32 z = search rules in
-            rw (w.queue-is, w.how-is, w.tail-is) (spread-skip _ _ _ _ _ _ _ c.loop-i.invariant.2 (λ g. clash g (sym (w.picks-g.ensures ∙ read-sends c.args.scan.all c.args.scan.back z fits.sfits) ∙ w.if-g.false)))
-        | else-how-m-eq0 w ↦ rw (w.queue-is, w.how-is, w.tail-is) (spread-skip _ _ _ _ _ _ _ c.loop-i.invariant.2 (λ g. in-of c.loop-i.how m.ensures w.if-how-m-eq0.false))
+            rw (w.queue-is, w.how-is, w.tail-is) (spread_skip _ _ _ _ _ _ _ c.loop-i.invariant.2 (λ g. clash g (sym (w.picks-g.ensures ∙ read_sends c.args.scan.all c.args.scan.back z fits.sfits) ∙ w.if-g.false)))
+        | else-how-m-eq0 w ↦ rw (w.queue-is, w.how-is, w.tail-is) (spread_skip _ _ _ _ _ _ _ c.loop-i.invariant.2 (λ g. in_of c.loop-i.how m.ensures w.if-how-m-eq0.false))
       ],
     )
 

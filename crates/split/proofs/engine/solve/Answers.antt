@@ -9,14 +9,14 @@ no_less : (a b : ℕ) → a ≡ b → b ≤ a
 no_less a b e = omega arith
 
 pub slice_bounds-solve_tabled-end : goal.slice_bounds-solve_tabled-end
-slice_bounds-solve_tabled-end c = sym (length-take-le _ _ c.requires.0.few-pins)
+slice_bounds-solve_tabled-end c = sym (length-take-le _ _ c.requires.0.few_pins)
 
 pub slice_bounds-solve_tabled-end-2 : goal.slice_bounds-solve_tabled-end-2
-slice_bounds-solve_tabled-end-2 c = let h : length c.args.mark.now + 1 ≤ most_modules + 1 = omega (arith, c.requires.0.few-modules) in sym (length-take-le _ _ h)
+slice_bounds-solve_tabled-end-2 c = let h : length c.args.mark.now + 1 ≤ most_modules + 1 = omega (arith, c.requires.0.few_modules) in sym (length-take-le _ _ h)
 
 pub slice_bounds-solve_tabled-end-3 : goal.slice_bounds-solve_tabled-end-3
-slice_bounds-solve_tabled-end-3 c = sym (length-take-le _ _ c.requires.0.few-pins)
+slice_bounds-solve_tabled-end-3 c = sym (length-take-le _ _ c.requires.0.few_pins)
 
 pub solve_tabled-requires : goal.solve_tabled-requires
-solve_tabled-requires c = let h : length c.args.mark.now + 1 ≤ most_modules + 1 = omega (arith, c.requires.0.few-modules) in
-    (c.requires.0, record { laid = c.requires.0.laid; pins = omega (arith, c.requires.0.few-pins); nets = omega (arith, c.requires.0.few-nets); named = length-take-le _ _ c.requires.0.few-pins; starts = length-take-le _ _ h; placed = no_less _ _ (length-take-le _ _ c.requires.0.few-pins) }, c.requires.1)
+solve_tabled-requires c = let h : length c.args.mark.now + 1 ≤ most_modules + 1 = omega (arith, c.requires.0.few_modules) in
+    (c.requires.0, record { laid = c.requires.0.laid; pins = omega (arith, c.requires.0.few_pins); nets = omega (arith, c.requires.0.few_nets); named = length-take-le _ _ c.requires.0.few_pins; starts = length-take-le _ _ h; placed = no_less _ _ (length-take-le _ _ c.requires.0.few_pins) }, c.requires.1)

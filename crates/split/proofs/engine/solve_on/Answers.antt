@@ -8,17 +8,17 @@ pub lift-requires : goal.lift-requires
 lift-requires c = let p = c.requires in (p.0, p.1, p.2.fair, p.2.long)
 
 pub slice_bounds-solve_in-end : goal.slice_bounds-solve_in-end
-slice_bounds-solve_in-end c = sym (length-take-le _ _ c.requires.0.few-modules)
+slice_bounds-solve_in-end c = sym (length-take-le _ _ c.requires.0.few_modules)
 
 pub slice_bounds-solve_in-end-2 : goal.slice_bounds-solve_in-end-2
-slice_bounds-solve_in-end-2 c = sym (length-take-le _ _ c.requires.0.few-modules)
+slice_bounds-solve_in-end-2 c = sym (length-take-le _ _ c.requires.0.few_modules)
 
 pub slice_bounds-solve_in-end-3 : goal.slice_bounds-solve_in-end-3
-slice_bounds-solve_in-end-3 c = sym (length-take-le _ _ c.requires.0.few-nets)
+slice_bounds-solve_in-end-3 c = sym (length-take-le _ _ c.requires.0.few_nets)
 
 pub slice_bounds-solve_in-end-4 : goal.slice_bounds-solve_in-end-4
-slice_bounds-solve_in-end-4 c = sym (length-take-le _ _ c.requires.0.few-nets)
+slice_bounds-solve_in-end-4 c = sym (length-take-le _ _ c.requires.0.few_nets)
 
 pub solve_in-requires : goal.solve_in-requires
 unfolding card_of
-solve_in-requires c = let p = c.requires in (record { laid = p.0.laid; tables = p.1; pins = omega (arith, p.0.few-pins); modules = omega (arith, p.0.few-modules); queue = length-take-le _ _ p.0.few-modules; how = length-take-le _ _ p.0.few-modules; seen = length-take-le _ _ p.0.few-nets; sums = length-take-le _ _ p.0.few-nets }, c.lift.ensures, c.lift.auto.flow ∙ p.2.long, p.2.rooms)
+solve_in-requires c = let p = c.requires in (record { laid = p.0.laid; tables = p.1; pins = omega (arith, p.0.few_pins); modules = omega (arith, p.0.few_modules); queue = length-take-le _ _ p.0.few_modules; how = length-take-le _ _ p.0.few_modules; seen = length-take-le _ _ p.0.few_nets; sums = length-take-le _ _ p.0.few_nets }, c.lift.ensures, c.lift.auto.flow ∙ p.2.long, p.2.rooms)

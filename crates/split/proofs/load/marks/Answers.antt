@@ -1,4 +1,4 @@
-use Rattle.split.proofs.Fills.{fill_start, fill-next, filled}
+use Rattle.split.proofs.Fills.{fill_start, fill_next, filled}
 use Rattle.book.specs.Format.{mark}
 use lib.ListN.{length-set}
 use mathlib.Core.Path.{◌∙◌}
@@ -13,7 +13,7 @@ pub loop-m-smaller : goal.loop-m-smaller
 loop-m-smaller c = omega (arith, length-set c.loop-m.out c.loop-m.m c.byte.result)
 
 pub loop-m-preserved : goal.loop-m-preserved
-loop-m-preserved c = (omega (arith, length-set c.loop-m.out c.loop-m.m c.byte.result), length-set c.loop-m.out c.loop-m.m c.byte.result ∙ c.loop-m.invariant.1, fill-next (mark c.args.book.now) c.loop-m.out c.loop-m.m c.byte.result c.loop-m.invariant.2 (omega arith) (c.byte.ensures (omega (arith, c.requires.0.mark-low c.loop-m.m (omega arith), c.mark.ensures.0)) ∙ c.mark.ensures.0))
+loop-m-preserved c = (omega (arith, length-set c.loop-m.out c.loop-m.m c.byte.result), length-set c.loop-m.out c.loop-m.m c.byte.result ∙ c.loop-m.invariant.1, fill_next (mark c.args.book.now) c.loop-m.out c.loop-m.m c.byte.result c.loop-m.invariant.2 (omega arith) (c.byte.ensures (omega (arith, c.requires.0.mark_low c.loop-m.m (omega arith), c.mark.ensures.0)) ∙ c.mark.ensures.0))
 
 pub shape_of-out : goal.shape_of-out
 shape_of-out c = c.loop-m.invariant.1

@@ -1,4 +1,4 @@
-use Rattle.split.proofs.Fills.{fill_start, fill-next, filled}
+use Rattle.split.proofs.Fills.{fill_start, fill_next, filled}
 use Rattle.book.specs.Format.{weight}
 use lib.ListN.{length-set}
 use mathlib.Core.Path.{◌∙◌}
@@ -13,7 +13,7 @@ pub loop-n-smaller : goal.loop-n-smaller
 loop-n-smaller c = omega (arith, length-set c.loop-n.out c.loop-n.n c.narrow.result)
 
 pub loop-n-preserved : goal.loop-n-preserved
-loop-n-preserved c = (omega (arith, length-set c.loop-n.out c.loop-n.n c.narrow.result), length-set c.loop-n.out c.loop-n.n c.narrow.result ∙ c.loop-n.invariant.1, fill-next (weight c.args.book.now) c.loop-n.out c.loop-n.n c.narrow.result c.loop-n.invariant.2 (omega arith) (c.narrow.ensures ∙ c.weight.ensures.0))
+loop-n-preserved c = (omega (arith, length-set c.loop-n.out c.loop-n.n c.narrow.result), length-set c.loop-n.out c.loop-n.n c.narrow.result ∙ c.loop-n.invariant.1, fill_next (weight c.args.book.now) c.loop-n.out c.loop-n.n c.narrow.result c.loop-n.invariant.2 (omega arith) (c.narrow.ensures ∙ c.weight.ensures.0))
 
 pub shape_of-out : goal.shape_of-out
 shape_of-out c = c.loop-n.invariant.1

@@ -1,5 +1,5 @@
 -- `view::listing::list_in` meets its contract: what the split answers is the listing. Assumes nothing.
-use Rattle.view.proofs.Splits.{rows_split, listed-refused}
+use Rattle.view.proofs.Splits.{rows_split, listed_refused}
 use Rattle.view.proofs.listing.list_in.Goals as goal
 
 pub put_split-requires : goal.put_split-requires
@@ -8,4 +8,4 @@ put_split-requires c =
 
 pub returns-in-Refused : goal.returns-in-Refused
 returns-in-Refused c =
-    record { text = _; lists = listed-refused c.args.book.now _ _ _ c.split.ensures _ c.in-Refused.is c.requires.0; put = c.put_refusal.ensures }
+    record { text = _; lists = listed_refused c.args.book.now _ _ _ c.split.ensures _ c.in-Refused.is c.requires.0; put = c.put_refusal.ensures }

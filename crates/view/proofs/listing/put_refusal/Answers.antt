@@ -2,7 +2,7 @@
 use Rattle.view.proofs.Puts.{put_as}
 use Rattle.view.specs.Text.{bytes}
 use Rattle.view.proofs.Lines.{refused-text}
-use Rattle.view.proofs.Rooms.{refusal-room}
+use Rattle.view.proofs.Rooms.{refusal_room}
 use native.Mathlib.Omega.{arith}
 use Rattle.view.proofs.listing.put_refusal.Goals as goal
 
@@ -11,7 +11,7 @@ unfolding bytes
 put_pair-requires c =
     let n = c.number-number in
     let p = c.place-place in
-    omega (arith, c.requires, refusal-room n.result p.result n.type_inv p.type_inv)
+    omega (arith, c.requires, refusal_room n.result p.result n.type_inv p.type_inv)
 
 pub returns : goal.returns
 unfolding bytes

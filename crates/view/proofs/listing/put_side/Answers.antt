@@ -2,7 +2,7 @@
 use Rattle.side.specs.Sides.{side_of}
 use Rattle.view.specs.Text.{bytes}
 use Rattle.view.proofs.Lines.{side-text}
-use Rattle.view.proofs.Rooms.{header-room, lines-room}
+use Rattle.view.proofs.Rooms.{header_room, lines_room}
 use Rattle.view.proofs.Puts.{put_as, put_then}
 use native.Mathlib.Omega.{arith}
 use Rattle.view.proofs.listing.put_side.Goals as goal
@@ -13,7 +13,7 @@ put_pair-then-requires c =
     let p = c.requires in
     let n = c.count-count in
     let k = c.area-area in
-    omega (arith, p.3, header-room c.args.name.now n.result k.result p.2 n.type_inv k.type_inv)
+    omega (arith, p.3, header_room c.args.name.now n.result k.result p.2 n.type_inv k.type_inv)
 
 pub put_modules-requires : goal.put_modules-requires
 unfolding bytes
@@ -24,9 +24,9 @@ put_modules-requires c =
     let k = c.area-area in
     let m = c.modules in
     let u = c.put_pair-then in
-    let few = p.0.sound.few-modules in
-    let head = header-room a.name.now n.result k.result p.2 n.type_inv k.type_inv in
-    let lines = lines-room (side_of a.side.now) m.result (omega (arith, m.ensures, few)) in
+    let few = p.0.sound.few_modules in
+    let head = header_room a.name.now n.result k.result p.2 n.type_inv k.type_inv in
+    let lines = lines_room (side_of a.side.now) m.result (omega (arith, m.ensures, few)) in
     (omega (arith, m.ensures, p.0.enough), omega (arith, p.3, head, lines, few, m.ensures, u.ensures.after, u.auto.out))
 
 pub returns : goal.returns
@@ -40,8 +40,8 @@ returns c =
     let u = c.put_pair-then.ensures in
     let v = c.put_modules.ensures in
     let x = side_of a.side.now in
-    let few = p.0.sound.few-modules in
-    let head = header-room a.name.now n.result k.result p.2 n.type_inv k.type_inv in
-    let lines = lines-room x m.result (omega (arith, m.ensures, few)) in
+    let few = p.0.sound.few_modules in
+    let head = header_room a.name.now n.result k.result p.2 n.type_inv k.type_inv in
+    let lines = lines_room x m.result (omega (arith, m.ensures, few)) in
     let text = side-text a.name.now a.book.now x n.result k.result m.result n.ensures k.ensures.0 m.ensures in
     (put_as text (put_then (omega (arith, p.3, head, u.after)) u v), omega (arith, head, lines, few, m.ensures, u.after, v.after))

@@ -1,6 +1,6 @@
 -- `view::listing::put_split` meets its contract: the price, the near side, the far side. Assumes nothing.
 use Rattle.view.specs.Text.{bytes, split_text}
-use Rattle.view.proofs.Rooms.{price-room}
+use Rattle.view.proofs.Rooms.{price_room}
 use Rattle.view.proofs.Puts.{put_then}
 use native.Mathlib.Omega.{arith}
 use Rattle.view.proofs.listing.put_split.Goals as goal
@@ -8,13 +8,13 @@ use Rattle.view.proofs.listing.put_split.Goals as goal
 pub put_number-end-requires : goal.put_number-end-requires
 unfolding bytes
 put_number-end-requires c =
-    omega (arith, c.requires.1, price-room c.args.price c.ranges.price.fits)
+    omega (arith, c.requires.1, price_room c.args.price c.ranges.price.fits)
 
 pub put_text-first-requires : goal.put_text-first-requires
 unfolding bytes
 put_text-first-requires c =
     let u = c.put_number-end in
-    omega (arith, c.requires.1, price-room c.args.price c.ranges.price.fits, u.ensures.after, u.auto.out)
+    omega (arith, c.requires.1, price_room c.args.price c.ranges.price.fits, u.ensures.after, u.auto.out)
 
 pub put_side-second-requires : goal.put_side-second-requires
 unfolding bytes
@@ -22,8 +22,8 @@ put_side-second-requires c =
     let p = c.requires in
     let u = c.put_number-end in
     let v = c.put_text-first in
-    let head = price-room c.args.price c.ranges.price.fits in
-    (p.0.near-lent, p.0.near-spare, omega arith, omega (arith, p.1, head, u.ensures.after, v.ensures.after, u.auto.out, v.auto.out))
+    let head = price_room c.args.price c.ranges.price.fits in
+    (p.0.near_lent, p.0.near_spare, omega arith, omega (arith, p.1, head, u.ensures.after, v.ensures.after, u.auto.out, v.auto.out))
 
 pub put_side-requires : goal.put_side-requires
 unfolding bytes
@@ -32,8 +32,8 @@ put_side-requires c =
     let u = c.put_number-end in
     let v = c.put_text-first in
     let w = c.put_side-second in
-    let head = price-room c.args.price c.ranges.price.fits in
-    (p.0.far-lent, p.0.far-spare, omega arith, omega (arith, p.1, head, u.ensures.after, v.ensures.after, w.ensures.1, u.auto.out, v.auto.out, w.auto.out))
+    let head = price_room c.args.price c.ranges.price.fits in
+    (p.0.far_lent, p.0.far_spare, omega arith, omega (arith, p.1, head, u.ensures.after, v.ensures.after, w.ensures.1, u.auto.out, v.auto.out, w.auto.out))
 
 pub returns : goal.returns
 unfolding bytes split_text
@@ -42,5 +42,5 @@ returns c =
     let u = c.put_number-end.ensures in
     let v = c.put_text-first.ensures in
     let w = c.put_side-second.ensures in
-    let head = price-room c.args.price c.ranges.price.fits in
+    let head = price_room c.args.price c.ranges.price.fits in
     put_then (omega (arith, p, head, u.after, v.after, w.1)) (put_then (omega (arith, p, head, u.after, v.after)) (put_then (omega (arith, p, head, u.after)) u v) w.0) c.put_side.ensures.0

@@ -2,14 +2,14 @@
 use Prim.Native.Nat.{◌+◌}
 use Rattle.side.specs.Sides.{side_of}
 use Rattle.view.specs.Text.{module_lines}
-use Rattle.view.proofs.Lines.{lines_next, lines_long, lines-grow}
-use Rattle.view.proofs.Puts.{put_then, put-none, put-long}
+use Rattle.view.proofs.Lines.{lines_next, lines_long, lines_grow}
+use Rattle.view.proofs.Puts.{put_then, put_none, put_long}
 use native.Mathlib.Omega.{arith}
 use Rattle.view.proofs.text.put_modules.Goals as goal
 
 pub loop-m-init : goal.loop-m-init
 unfolding module_lines
-loop-m-init c = (omega arith, put-none c.args.at c.args.out.now)
+loop-m-init c = (omega arith, put_none c.args.at c.args.out.now)
 
 pub put_module-next-requires : goal.put_module-next-requires
 put_module-next-requires c =
@@ -18,8 +18,8 @@ put_module-next-requires c =
     let l = c.loop-m in
     let x = side_of a.side.now in
     let long = lines_long x l.m in
-    let grow = lines-grow x (l.m + 1) a.count (omega arith) in
-    (omega (arith, p.0), omega (arith, p.1, l.invariant.1.after, long, grow, put-long (omega (arith, p.1, long, grow)) l.invariant.1))
+    let grow = lines_grow x (l.m + 1) a.count (omega arith) in
+    (omega (arith, p.0), omega (arith, p.1, l.invariant.1.after, long, grow, put_long (omega (arith, p.1, long, grow)) l.invariant.1))
 
 pub loop-m-preserved : goal.loop-m-preserved
 loop-m-preserved c =
@@ -27,5 +27,5 @@ loop-m-preserved c =
     let l = c.loop-m in
     let x = side_of a.side.now in
     let long = lines_long x l.m in
-    let grow = lines-grow x (l.m + 1) a.count (omega arith) in
+    let grow = lines_grow x (l.m + 1) a.count (omega arith) in
     (omega arith, rw (lines_next x l.m) (put_then (omega (arith, c.requires.1, l.invariant.1.after, long, grow)) l.invariant.1 c.put_module-next.ensures))

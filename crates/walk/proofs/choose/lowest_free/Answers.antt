@@ -3,7 +3,7 @@ use Rattle.walk.specs.Parts.{marks_of, side_from}
 use Rattle.walk.specs.Walk.{free_in}
 use Rattle.side.specs.Sides.{side_of}
 use Rattle.walk.proofs.Marks.{lowest_start}
-use Rattle.book.proofs.Firsts.{lowest-more, lowest-found, lowest-ended}
+use Rattle.book.proofs.Firsts.{lowest_more, lowest_found, lowest_ended}
 use Rattle.std.specs.Prelude.{length}
 use mathlib.Core.Path.{sym, ◌∙◌}
 use native.Mathlib.Omega.{arith}
@@ -16,15 +16,15 @@ pub returns-then-is_free_on : goal.returns-then-is_free_on
 returns-then-is_free_on c =
     let a = c.args in
     let i = c.loop-m in
-    sym (lowest-found (free_in (marks_of a.marks.now) (side_from a.on (side_of a.x.now))) i.m (length a.marks.now) i.invariant.1 (sym c.is_free_on.ensures ∙ c.if-is_free_on.true) (omega arith))
+    sym (lowest_found (free_in (marks_of a.marks.now) (side_from a.on (side_of a.x.now))) i.m (length a.marks.now) i.invariant.1 (sym c.is_free_on.ensures ∙ c.if-is_free_on.true) (omega arith))
 
 pub loop-m-preserved : goal.loop-m-preserved
 loop-m-preserved c =
     let a = c.args in
     let i = c.loop-m in
-    (omega arith, lowest-more (free_in (marks_of a.marks.now) (side_from a.on (side_of a.x.now))) i.m i.invariant.1 (sym c.is_free_on.ensures ∙ c.if-is_free_on.false))
+    (omega arith, lowest_more (free_in (marks_of a.marks.now) (side_from a.on (side_of a.x.now))) i.m i.invariant.1 (sym c.is_free_on.ensures ∙ c.if-is_free_on.false))
 
 pub returns : goal.returns
 returns c =
     let a = c.args in
-    sym (lowest-ended (free_in (marks_of a.marks.now) (side_from a.on (side_of a.x.now))) c.loop-m.m (length a.marks.now) c.loop-m.invariant.1 (omega arith))
+    sym (lowest_ended (free_in (marks_of a.marks.now) (side_from a.on (side_of a.x.now))) c.loop-m.m (length a.marks.now) c.loop-m.invariant.1 (omega arith))

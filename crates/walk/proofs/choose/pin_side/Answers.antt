@@ -1,5 +1,5 @@
 -- `walk::choose::pin_side` meets its contract: the modules below `i` have their marks. Assumes nothing.
-use Rattle.walk.proofs.Marks.{pinned-start, pinned-next}
+use Rattle.walk.proofs.Marks.{pinned_start, pinned_next}
 use Rattle.walk.specs.Parts.{side_from, Pinned}
 use Rattle.side.specs.Sides.{side_of}
 use Rattle.line.specs.Flow.{only}
@@ -10,7 +10,7 @@ use native.Mathlib.Omega.{arith}
 use Rattle.walk.proofs.choose.pin_side.Goals as goal
 
 pub loop-i-init : goal.loop-i-init
-loop-i-init c = (omega arith, pinned-start _ _ _)
+loop-i-init c = (omega arith, pinned_start _ _ _)
 
 pub is_pinned-pinned-requires : goal.is_pinned-pinned-requires
 is_pinned-pinned-requires c = omega (arith, c.loop-i.invariant.1.long, c.requires)
@@ -26,7 +26,7 @@ loop-i-preserved c =
     let a = c.args in
     let i = c.loop-i in
     let is-pinned' = c.is_pinned-pinned in
-    (omega (arith, i.invariant.1.long), pinned-next a.to (either (side_from a.on (side_of a.x.now)) (only a.m)) i.i a.marks.now i.marks is-pinned'.result c.marked.result (omega (arith, i.invariant.1.long)) is-pinned'.ensures c.marked.ensures i.invariant.1)
+    (omega (arith, i.invariant.1.long), pinned_next a.to (either (side_from a.on (side_of a.x.now)) (only a.m)) i.i a.marks.now i.marks is-pinned'.result c.marked.result (omega (arith, i.invariant.1.long)) is-pinned'.ensures c.marked.ensures i.invariant.1)
 
 pub shape_of-marks : goal.shape_of-marks
 shape_of-marks c = c.loop-i.invariant.1.long

@@ -1,5 +1,5 @@
 -- `walk::cut::clear` meets its contract: the bytes before `i` are 0. Assumes nothing.
-use Rattle.walk.proofs.Cuts.{cleared, zero-next}
+use Rattle.walk.proofs.Cuts.{cleared, zero_next}
 use native.Mathlib.Nat.{not-suc-le-zero}
 use mathlib.Core.Path.{refl, ◌∙◌}
 use native.Mathlib.Omega.{arith}
@@ -12,7 +12,7 @@ pub bounds-out-i : goal.bounds-out-i
 bounds-out-i c = omega (arith, c.loop-i.invariant.1)
 
 pub loop-i-preserved : goal.loop-i-preserved
-loop-i-preserved c = let z = zero-next c.loop-i.out c.loop-i.i (omega (arith, c.loop-i.invariant.1)) c.loop-i.invariant.2 in (omega (arith, c.loop-i.invariant.1), z.0 ∙ c.loop-i.invariant.1, z.1)
+loop-i-preserved c = let z = zero_next c.loop-i.out c.loop-i.i (omega (arith, c.loop-i.invariant.1)) c.loop-i.invariant.2 in (omega (arith, c.loop-i.invariant.1), z.0 ∙ c.loop-i.invariant.1, z.1)
 
 pub shape_of-out : goal.shape_of-out
 shape_of-out c = c.loop-i.invariant.1

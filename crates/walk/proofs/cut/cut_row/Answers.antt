@@ -1,7 +1,7 @@
 -- `walk::cut::cut_row` meets its contract: the modules on cut nets before `n` are put on, and `first` is the place of the first pin of net `n`. Assumes nothing.
 use Rattle.split.proofs.Loads.{first-zero}
-use Rattle.walk.proofs.Cuts.{cut-start, cut-next, cut-row}
-use Rattle.side.proofs.Places.{next-within}
+use Rattle.walk.proofs.Cuts.{cut_start, cut_next, cut-row}
+use Rattle.side.proofs.Places.{next_within}
 use Rattle.side.specs.Sides.{side_of}
 use Rattle.book.proofs.CardLaws.{first_pin-suc}
 use Rattle.std.specs.Prelude.{ℕ, ◌+◌}
@@ -12,7 +12,7 @@ use Rattle.walk.proofs.cut.cut_row.Goals as goal
 pub loop-n-init : goal.loop-n-init
 loop-n-init c =
     let a = c.args in
-    (omega arith, first-zero a.book.now, cut-start a.book.now (side_of a.x.now) _)
+    (omega arith, first-zero a.book.now, cut_start a.book.now (side_of a.x.now) _)
 
 pub put_cut-requires : goal.put_cut-requires
 put_cut-requires c =
@@ -26,14 +26,14 @@ overflow_add-first c =
     let a = c.args in
     let p = c.requires in
     let i = c.loop-n in
-    omega (arith, c.pin_count-first.ensures.0, next-within a.book.now p.0.sound i.n (omega arith))
+    omega (arith, c.pin_count-first.ensures.0, next_within a.book.now p.0.sound i.n (omega arith))
 
 pub loop-n-preserved : goal.loop-n-preserved
 loop-n-preserved c =
     let a = c.args in
     let i = c.loop-n in
     let put-cut' = c.put_cut in
-    (omega arith, ap₂ (λ (p q : ℕ). p + q) i.invariant.1 c.pin_count-first.ensures.0 ∙ sym (first_pin-suc a.book.now i.n), cut-next a.book.now (side_of a.x.now) i.n _ i.out _ (omega arith) i.invariant.2 put-cut'.ensures)
+    (omega arith, ap₂ (λ (p q : ℕ). p + q) i.invariant.1 c.pin_count-first.ensures.0 ∙ sym (first_pin-suc a.book.now i.n), cut_next a.book.now (side_of a.x.now) i.n _ i.out _ (omega arith) i.invariant.2 put-cut'.ensures)
 
 pub shape_of-out : goal.shape_of-out
 shape_of-out c = c.loop-n.invariant.2.long ∙ c.clear.ensures.long

@@ -1,10 +1,10 @@
 -- `walk::cut::put_net` meets its contract: the modules of the pins before pin `j` are put on. Assumes nothing.
-use Rattle.walk.proofs.Cuts.{net-start, net-next, net-all}
+use Rattle.walk.proofs.Cuts.{net_start, net_next, net_all}
 use native.Mathlib.Omega.{arith}
 use Rattle.walk.proofs.cut.put_net.Goals as goal
 
 pub loop-j-init : goal.loop-j-init
-loop-j-init c = (omega arith, net-start c.args.book.now c.args.n c.args.out.now)
+loop-j-init c = (omega arith, net_start c.args.book.now c.args.n c.args.out.now)
 
 pub put-requires : goal.put-requires
 put-requires c = omega (arith, c.loop-j.invariant.1.long, c.pin_of.ensures.1, c.requires.0.enough)
@@ -16,7 +16,7 @@ loop-j-preserved c =
     let i = c.loop-j in
     let pin-of' = c.pin_of in
     let put' = c.put in
-    (omega arith, net-next a.book.now a.n i.j a.out.now i.out _ pin-of'.result (omega arith) pin-of'.ensures.0 (omega (arith, i.invariant.1.long, pin-of'.ensures.1, p.0.enough)) put'.ensures i.invariant.1)
+    (omega arith, net_next a.book.now a.n i.j a.out.now i.out _ pin-of'.result (omega arith) pin-of'.ensures.0 (omega (arith, i.invariant.1.long, pin-of'.ensures.1, p.0.enough)) put'.ensures i.invariant.1)
 
 pub shape_of-out : goal.shape_of-out
 shape_of-out c = c.loop-j.invariant.1.long
@@ -24,4 +24,4 @@ shape_of-out c = c.loop-j.invariant.1.long
 pub returns : goal.returns
 returns c =
     let a = c.args in
-    net-all a.book.now a.n c.loop-j.j a.out.now c.loop-j.out (omega arith) c.loop-j.invariant.1
+    net_all a.book.now a.n c.loop-j.j a.out.now c.loop-j.out (omega arith) c.loop-j.invariant.1

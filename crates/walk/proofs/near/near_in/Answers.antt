@@ -1,5 +1,5 @@
 -- `walk::near::near_in` meets its contract: what the engine reached is written as a row of bits. Assumes nothing.
-use Rattle.walk.proofs.Steps.{near-row}
+use Rattle.walk.proofs.Steps.{near_row}
 use mathlib.Core.Path.{◌∙◌}
 use native.Mathlib.Omega.{arith}
 use Rattle.walk.proofs.near.near_in.Goals as goal
@@ -16,4 +16,4 @@ returns c =
     let p = c.requires in
     let raise' = c.raise in
     let write-side' = c.write_side in
-    near-row a.first.now a.mods.now a.weight.now a.mark.now p.0.laid _ _ a.x.now _ _ (raise'.auto.how ∙ p.0.how) raise'.ensures write-side'.ensures
+    near_row a.first.now a.mods.now a.weight.now a.mark.now p.0.laid _ _ a.x.now _ _ (raise'.auto.how ∙ p.0.how) raise'.ensures write-side'.ensures

@@ -9,7 +9,7 @@ build-requires c =
     let firsts' = c.firsts in
     let mods' = c.mods in
     let weights' = c.weights in
-    (_, buildable a.book.now p.0 _ _ _ _ _ _ firsts'.ensures mods'.ensures weights'.ensures p.1.nets-of p.1.starts p.1.pins-of)
+    (_, buildable a.book.now p.0 _ _ _ _ _ _ firsts'.ensures mods'.ensures weights'.ensures p.1.nets_of p.1.starts p.1.pins_of)
 
 pub returns : goal.returns
 returns c =
@@ -19,4 +19,4 @@ returns c =
     let mods' = c.mods in
     let weights' = c.weights in
     let build' = c.build in
-    loaded a.book.now p.0 _ _ _ _ _ _ firsts'.ensures mods'.ensures weights'.ensures p.1.nets-of p.1.starts p.1.pins-of _ _ _ build'.ensures
+    loaded a.book.now p.0 _ _ _ _ _ _ firsts'.ensures mods'.ensures weights'.ensures p.1.nets_of p.1.starts p.1.pins_of _ _ _ build'.ensures

@@ -11,7 +11,7 @@ slice_bounds-run_on-end c =
     let p = c.requires in
     let modules' = c.modules-m in
     let nets' = c.nets-n in
-    let h1 : modules'.result + 1 ≤ most_modules + 1 = omega (arith, modules'.ensures, p.0.few-modules) in let h2 : nets'.result ≤ most_nets = omega (arith, nets'.ensures, p.0.few-nets) in let h3 : c.pins-p.result ≤ most_pins = omega (arith, c.pins-p.ensures, p.0.few-pins) in let h4 : nets'.result + 1 ≤ most_nets + 1 = omega (arith, h2) in sym (length-take-le _ _ h4)
+    let h1 : modules'.result + 1 ≤ most_modules + 1 = omega (arith, modules'.ensures, p.0.few_modules) in let h2 : nets'.result ≤ most_nets = omega (arith, nets'.ensures, p.0.few_nets) in let h3 : c.pins-p.result ≤ most_pins = omega (arith, c.pins-p.ensures, p.0.few_pins) in let h4 : nets'.result + 1 ≤ most_nets + 1 = omega (arith, h2) in sym (length-take-le _ _ h4)
 
 pub slice_bounds-run_on-end-2 : goal.slice_bounds-run_on-end-2
 slice_bounds-run_on-end-2 c =
@@ -19,7 +19,7 @@ slice_bounds-run_on-end-2 c =
     let modules' = c.modules-m in
     let nets' = c.nets-n in
     let pins' = c.pins-p in
-    let h1 : modules'.result + 1 ≤ most_modules + 1 = omega (arith, modules'.ensures, p.0.few-modules) in let h2 : nets'.result ≤ most_nets = omega (arith, nets'.ensures, p.0.few-nets) in let h3 : pins'.result ≤ most_pins = omega (arith, pins'.ensures, p.0.few-pins) in let h4 : nets'.result + 1 ≤ most_nets + 1 = omega (arith, h2) in sym (length-take-le _ _ h3)
+    let h1 : modules'.result + 1 ≤ most_modules + 1 = omega (arith, modules'.ensures, p.0.few_modules) in let h2 : nets'.result ≤ most_nets = omega (arith, nets'.ensures, p.0.few_nets) in let h3 : pins'.result ≤ most_pins = omega (arith, pins'.ensures, p.0.few_pins) in let h4 : nets'.result + 1 ≤ most_nets + 1 = omega (arith, h2) in sym (length-take-le _ _ h3)
 
 pub slice_bounds-run_on-end-3 : goal.slice_bounds-run_on-end-3
 slice_bounds-run_on-end-3 c =
@@ -27,7 +27,7 @@ slice_bounds-run_on-end-3 c =
     let modules' = c.modules-m in
     let nets' = c.nets-n in
     let pins' = c.pins-p in
-    let h1 : modules'.result + 1 ≤ most_modules + 1 = omega (arith, modules'.ensures, p.0.few-modules) in let h2 : nets'.result ≤ most_nets = omega (arith, nets'.ensures, p.0.few-nets) in let h3 : pins'.result ≤ most_pins = omega (arith, pins'.ensures, p.0.few-pins) in let h4 : nets'.result + 1 ≤ most_nets + 1 = omega (arith, h2) in sym (length-take-le _ _ h2)
+    let h1 : modules'.result + 1 ≤ most_modules + 1 = omega (arith, modules'.ensures, p.0.few_modules) in let h2 : nets'.result ≤ most_nets = omega (arith, nets'.ensures, p.0.few_nets) in let h3 : pins'.result ≤ most_pins = omega (arith, pins'.ensures, p.0.few_pins) in let h4 : nets'.result + 1 ≤ most_nets + 1 = omega (arith, h2) in sym (length-take-le _ _ h2)
 
 pub slice_bounds-run_on-end-4 : goal.slice_bounds-run_on-end-4
 slice_bounds-run_on-end-4 c =
@@ -35,7 +35,7 @@ slice_bounds-run_on-end-4 c =
     let modules' = c.modules-m in
     let nets' = c.nets-n in
     let pins' = c.pins-p in
-    let h1 : modules'.result + 1 ≤ most_modules + 1 = omega (arith, modules'.ensures, p.0.few-modules) in let h2 : nets'.result ≤ most_nets = omega (arith, nets'.ensures, p.0.few-nets) in let h3 : pins'.result ≤ most_pins = omega (arith, pins'.ensures, p.0.few-pins) in let h4 : nets'.result + 1 ≤ most_nets + 1 = omega (arith, h2) in sym (length-take-le _ _ h3)
+    let h1 : modules'.result + 1 ≤ most_modules + 1 = omega (arith, modules'.ensures, p.0.few_modules) in let h2 : nets'.result ≤ most_nets = omega (arith, nets'.ensures, p.0.few_nets) in let h3 : pins'.result ≤ most_pins = omega (arith, pins'.ensures, p.0.few_pins) in let h4 : nets'.result + 1 ≤ most_nets + 1 = omega (arith, h2) in sym (length-take-le _ _ h3)
 
 pub slice_bounds-run_on-end-5 : goal.slice_bounds-run_on-end-5
 slice_bounds-run_on-end-5 c =
@@ -43,7 +43,7 @@ slice_bounds-run_on-end-5 c =
     let modules' = c.modules-m in
     let nets' = c.nets-n in
     let pins' = c.pins-p in
-    let h1 : modules'.result + 1 ≤ most_modules + 1 = omega (arith, modules'.ensures, p.0.few-modules) in let h2 : nets'.result ≤ most_nets = omega (arith, nets'.ensures, p.0.few-nets) in let h3 : pins'.result ≤ most_pins = omega (arith, pins'.ensures, p.0.few-pins) in let h4 : nets'.result + 1 ≤ most_nets + 1 = omega (arith, h2) in sym (length-take-le _ _ h1)
+    let h1 : modules'.result + 1 ≤ most_modules + 1 = omega (arith, modules'.ensures, p.0.few_modules) in let h2 : nets'.result ≤ most_nets = omega (arith, nets'.ensures, p.0.few_nets) in let h3 : pins'.result ≤ most_pins = omega (arith, pins'.ensures, p.0.few_pins) in let h4 : nets'.result + 1 ≤ most_nets + 1 = omega (arith, h2) in sym (length-take-le _ _ h1)
 
 pub slice_bounds-run_on-end-6 : goal.slice_bounds-run_on-end-6
 slice_bounds-run_on-end-6 c =
@@ -51,7 +51,7 @@ slice_bounds-run_on-end-6 c =
     let modules' = c.modules-m in
     let nets' = c.nets-n in
     let pins' = c.pins-p in
-    let h1 : modules'.result + 1 ≤ most_modules + 1 = omega (arith, modules'.ensures, p.0.few-modules) in let h2 : nets'.result ≤ most_nets = omega (arith, nets'.ensures, p.0.few-nets) in let h3 : pins'.result ≤ most_pins = omega (arith, pins'.ensures, p.0.few-pins) in let h4 : nets'.result + 1 ≤ most_nets + 1 = omega (arith, h2) in sym (length-take-le _ _ h3)
+    let h1 : modules'.result + 1 ≤ most_modules + 1 = omega (arith, modules'.ensures, p.0.few_modules) in let h2 : nets'.result ≤ most_nets = omega (arith, nets'.ensures, p.0.few_nets) in let h3 : pins'.result ≤ most_pins = omega (arith, pins'.ensures, p.0.few_pins) in let h4 : nets'.result + 1 ≤ most_nets + 1 = omega (arith, h2) in sym (length-take-le _ _ h3)
 
 pub slice_bounds-run_on-end-7 : goal.slice_bounds-run_on-end-7
 slice_bounds-run_on-end-7 c =
@@ -59,7 +59,7 @@ slice_bounds-run_on-end-7 c =
     let modules' = c.modules-m in
     let nets' = c.nets-n in
     let pins' = c.pins-p in
-    let h1 : modules'.result + 1 ≤ most_modules + 1 = omega (arith, modules'.ensures, p.0.few-modules) in let h2 : nets'.result ≤ most_nets = omega (arith, nets'.ensures, p.0.few-nets) in let h3 : pins'.result ≤ most_pins = omega (arith, pins'.ensures, p.0.few-pins) in let h4 : nets'.result + 1 ≤ most_nets + 1 = omega (arith, h2) in sym (length-take-le _ _ h3)
+    let h1 : modules'.result + 1 ≤ most_modules + 1 = omega (arith, modules'.ensures, p.0.few_modules) in let h2 : nets'.result ≤ most_nets = omega (arith, nets'.ensures, p.0.few_nets) in let h3 : pins'.result ≤ most_pins = omega (arith, pins'.ensures, p.0.few_pins) in let h4 : nets'.result + 1 ≤ most_nets + 1 = omega (arith, h2) in sym (length-take-le _ _ h3)
 
 pub run_on-requires : goal.run_on-requires
 run_on-requires c =
@@ -67,4 +67,4 @@ run_on-requires c =
     let modules' = c.modules-m in
     let nets' = c.nets-n in
     let pins' = c.pins-p in
-    let h1 : modules'.result + 1 ≤ most_modules + 1 = omega (arith, modules'.ensures, p.0.few-modules) in let h2 : nets'.result ≤ most_nets = omega (arith, nets'.ensures, p.0.few-nets) in let h3 : pins'.result ≤ most_pins = omega (arith, pins'.ensures, p.0.few-pins) in let h4 : nets'.result + 1 ≤ most_nets + 1 = omega (arith, h2) in (p.0, record { firsts = length-take-le _ _ h4 ∙ ap (λ (n : ℕ). n + 1) nets'.ensures; mods = length-take-le _ _ h3 ∙ pins'.ensures; weights = length-take-le _ _ h2 ∙ nets'.ensures; nets-of = length-take-le _ _ h3 ∙ pins'.ensures; starts = length-take-le _ _ h1 ∙ ap (λ (n : ℕ). n + 1) modules'.ensures; pins-of = length-take-le _ _ h3 ∙ pins'.ensures }, length-take-le _ _ h3 ∙ sym (length-take-le _ _ h3), p.1)
+    let h1 : modules'.result + 1 ≤ most_modules + 1 = omega (arith, modules'.ensures, p.0.few_modules) in let h2 : nets'.result ≤ most_nets = omega (arith, nets'.ensures, p.0.few_nets) in let h3 : pins'.result ≤ most_pins = omega (arith, pins'.ensures, p.0.few_pins) in let h4 : nets'.result + 1 ≤ most_nets + 1 = omega (arith, h2) in (p.0, record { firsts = length-take-le _ _ h4 ∙ ap (λ (n : ℕ). n + 1) nets'.ensures; mods = length-take-le _ _ h3 ∙ pins'.ensures; weights = length-take-le _ _ h2 ∙ nets'.ensures; nets_of = length-take-le _ _ h3 ∙ pins'.ensures; starts = length-take-le _ _ h1 ∙ ap (λ (n : ℕ). n + 1) modules'.ensures; pins_of = length-take-le _ _ h3 ∙ pins'.ensures }, length-take-le _ _ h3 ∙ sym (length-take-le _ _ h3), p.1)

@@ -1,5 +1,5 @@
 -- `walk::round::round_on` meets its contract: the near side of the slices is that of the book. Assumes nothing.
-use Rattle.walk.proofs.Steps.{ground, one-round}
+use Rattle.walk.proofs.Steps.{ground, one_round}
 use Rattle.gate.specs.Gates.{band_says}
 use mathlib.Core.Path.{refl}
 use native.Mathlib.Omega.{arith}
@@ -23,4 +23,4 @@ returns c =
     let p = c.requires in
     let near' = c.near in
     let step' = c.step in
-    one-round a.book.now a.first.now a.mods.now a.weight.now a.nets.now a.at.now a.pins.now a.marks.now p.0 p.1 a.band a.x.now _ _ _ near'.ensures step'.ensures (step'.ensures (band_says a.band) (λ a l. refl)).marked
+    one_round a.book.now a.first.now a.mods.now a.weight.now a.nets.now a.at.now a.pins.now a.marks.now p.0 p.1 a.band a.x.now _ _ _ near'.ensures step'.ensures (step'.ensures (band_says a.band) (λ a l. refl)).marked

@@ -1,5 +1,5 @@
 -- `walk::round::seek` meets its contract: the row of cut modules is that of the page. Assumes nothing.
-use Rattle.walk.proofs.Steps.{choice-row}
+use Rattle.walk.proofs.Steps.{choice_row}
 use Rattle.walk.specs.Parts.{side_from}
 use Rattle.side.specs.Sides.{side_of}
 use mathlib.Core.Path.{◌∙◌}
@@ -10,4 +10,4 @@ returns c =
     let a = c.args in
     let p = c.requires in
     let cut-row' = c.cut_row in
-    c.choose.ensures ∙ choice-row a.book.now a.marks.now (side_of a.x.now) (side_from a.on (side_of a.x.now)) _ _ p.1.long cut-row'.ensures
+    c.choose.ensures ∙ choice_row a.book.now a.marks.now (side_of a.x.now) (side_from a.on (side_of a.x.now)) _ _ p.1.long cut-row'.ensures

@@ -1,5 +1,5 @@
 -- `walk::round::step` meets its contract: the band says below, within or above. Assumes nothing.
-use Rattle.walk.proofs.Steps.{step-below, step-above, step-within}
+use Rattle.walk.proofs.Steps.{step_below, step_above, step_within}
 use Rattle.side.specs.Sides.{side_of}
 use mathlib.Core.Path.{refl}
 use Rattle.walk.proofs.round.step.Goals as goal
@@ -11,7 +11,7 @@ returns-in-Below c =
     let area' = c.area-area in
     let says' = c.says in
     let take-one' = c.take_one in
-    step-below a.book.now a.marks.now _ (side_of a.x.now) a.band price-of'.result area'.result _ says'.result price-of'.ensures.0 area'.ensures.0 area'.ensures.1 says'.ensures c.in-Below.is take-one'.ensures
+    step_below a.book.now a.marks.now _ (side_of a.x.now) a.band price-of'.result area'.result _ says'.result price-of'.ensures.0 area'.ensures.0 area'.ensures.1 says'.ensures c.in-Below.is take-one'.ensures
 
 pub returns-in-Within : goal.returns-in-Within
 returns-in-Within c =
@@ -20,7 +20,7 @@ returns-in-Within c =
     let price-of' = c.price_of-price in
     let area' = c.area-area in
     let says' = c.says in
-    step-within a.book.now a.marks.now _ (side_of a.x.now) a.band price-of'.result area'.result _ says'.result price-of'.ensures.0 area'.ensures.0 area'.ensures.1 says'.ensures c.in-Within.is p.1 refl refl
+    step_within a.book.now a.marks.now _ (side_of a.x.now) a.band price-of'.result area'.result _ says'.result price-of'.ensures.0 area'.ensures.0 area'.ensures.1 says'.ensures c.in-Within.is p.1 refl refl
 
 pub returns-in-Above : goal.returns-in-Above
 returns-in-Above c =
@@ -29,4 +29,4 @@ returns-in-Above c =
     let area' = c.area-area in
     let says' = c.says in
     let take-one2' = c.take_one-in-Above in
-    step-above a.book.now a.marks.now _ (side_of a.x.now) a.band price-of'.result area'.result _ says'.result price-of'.ensures.0 area'.ensures.0 area'.ensures.1 says'.ensures c.in-Above.is take-one2'.ensures
+    step_above a.book.now a.marks.now _ (side_of a.x.now) a.band price-of'.result area'.result _ says'.result price-of'.ensures.0 area'.ensures.0 area'.ensures.1 says'.ensures c.in-Above.is take-one2'.ensures

@@ -1,5 +1,5 @@
 -- `walk::round::take_one` meets its contract: the choice found a module, or none. Assumes nothing.
-use Rattle.walk.proofs.Steps.{takes-turned, ends_turned, taken-small}
+use Rattle.walk.proofs.Steps.{takes_turned, ends_turned, taken_small}
 use Rattle.walk.specs.Parts.{side_from}
 use Rattle.side.specs.Sides.{side_of}
 use Rattle.std.specs.Prelude.{not}
@@ -12,7 +12,7 @@ overflow_cast-result c =
     let a = c.args in
     let p = c.requires in
     let seek' = c.seek in
-    record { fits = omega (arith, taken-small a.book.now p.0.sound a.marks.now (side_of a.x.now) (side_from (not a.meter) (side_of a.x.now)) _ (sym seek'.ensures ∙ c.in-At.is)) }
+    record { fits = omega (arith, taken_small a.book.now p.0.sound a.marks.now (side_of a.x.now) (side_from (not a.meter) (side_of a.x.now)) _ (sym seek'.ensures ∙ c.in-At.is)) }
 
 pub returns-in-At : goal.returns-in-At
 returns-in-At c =
@@ -21,7 +21,7 @@ returns-in-At c =
     let seek' = c.seek in
     let mark-of' = c.mark_of-to in
     let pin-side' = c.pin_side in
-    takes-turned a.book.now a.marks.now (side_of a.x.now) a.meter p.1 a.price a.area _ _ mark-of'.result _ (sym seek'.ensures ∙ c.in-At.is) mark-of'.ensures pin-side'.ensures refl
+    takes_turned a.book.now a.marks.now (side_of a.x.now) a.meter p.1 a.price a.area _ _ mark-of'.result _ (sym seek'.ensures ∙ c.in-At.is) mark-of'.ensures pin-side'.ensures refl
 
 pub returns-in-Nothing : goal.returns-in-Nothing
 returns-in-Nothing c =

@@ -1,7 +1,7 @@
 -- `walk::run::run` meets its contract: the walk stands at its marks, with its rows written; fewer modules are free after each round. Assumes nothing.
-use Rattle.walk.proofs.Runs.{Going, going_start, going-room, going-few, going-again, going_less, going-stops, going-ends}
+use Rattle.walk.proofs.Runs.{Going, going_start, going_room, going_few, going_again, going_less, going_stops, going_ends}
 use Rattle.walk.specs.Runs.{standing_marks}
-use Rattle.flow.proofs.Raised.{zeros-fair}
+use Rattle.flow.proofs.Raised.{zeros_fair}
 use Rattle.std.specs.Prelude.{ℕ}
 use mathlib.Core.Path.{refl, sym, ◌∙◌, subst}
 use native.Mathlib.Omega.{arith}
@@ -21,7 +21,7 @@ overflow_mul-place c =
     let a = c.args in
     let p = c.requires in
     let start' = c.start-w in
-    record { fits = omega (arith, going-few a.book.now p.0.sound a.band (standing_marks a.book.now start'.result) a.rows.now (standing_marks a.book.now c.loop-band.w) c.loop-band.w.rounds c.loop-band.rows c.loop-band.invariant.0) }
+    record { fits = omega (arith, going_few a.book.now p.0.sound a.band (standing_marks a.book.now start'.result) a.rows.now (standing_marks a.book.now c.loop-band.w) c.loop-band.w.rounds c.loop-band.rows c.loop-band.invariant.0) }
 
 pub round-w-requires : goal.round-w-requires
 round-w-requires c =
@@ -30,7 +30,7 @@ round-w-requires c =
     let start' = c.start-w in
     let i = c.loop-band in
     let still' = c.still in
-    (p.0, i.invariant.0.marked, zeros-fair _ _ still'.ensures, still'.auto.flow ∙ i.invariant.1 ∙ p.1, going-few a.book.now p.0.sound a.band (standing_marks a.book.now start'.result) a.rows.now (standing_marks a.book.now i.w) i.w.rounds i.rows i.invariant.0)
+    (p.0, i.invariant.0.marked, zeros_fair _ _ still'.ensures, still'.auto.flow ∙ i.invariant.1 ∙ p.1, going_few a.book.now p.0.sound a.band (standing_marks a.book.now start'.result) a.rows.now (standing_marks a.book.now i.w) i.w.rounds i.rows i.invariant.0)
 
 pub put_row-requires : goal.put_row-requires
 put_row-requires c =
@@ -38,7 +38,7 @@ put_row-requires c =
     let p = c.requires in
     let start' = c.start-w in
     let i = c.loop-band in
-    omega (arith, going-room a.book.now p.0.sound a.band (standing_marks a.book.now start'.result) a.rows.now (standing_marks a.book.now i.w) i.w.rounds i.rows i.invariant.0 p.2)
+    omega (arith, going_room a.book.now p.0.sound a.band (standing_marks a.book.now start'.result) a.rows.now (standing_marks a.book.now i.w) i.w.rounds i.rows i.invariant.0 p.2)
 
 pub returns-then-way-eq0 : goal.returns-then-way-eq0
 returns-then-way-eq0 c =
@@ -48,7 +48,7 @@ returns-then-way-eq0 c =
     let i = c.loop-band in
     let round' = c.round-w in
     let put-row' = c.put_row in
-    going-stops a.book.now p.0.sound a.band (standing_marks a.book.now start'.result) a.rows.now (standing_marks a.book.now i.w) i.w.rounds i.rows i.invariant.0 round'.result.x round'.result.row (standing_marks a.book.now round'.result) round'.ensures.0 p.2 _ put-row'.ensures round'.result refl refl round'.ensures.1 c.if-way-eq0.true
+    going_stops a.book.now p.0.sound a.band (standing_marks a.book.now start'.result) a.rows.now (standing_marks a.book.now i.w) i.w.rounds i.rows i.invariant.0 round'.result.x round'.result.row (standing_marks a.book.now round'.result) round'.ensures.0 p.2 _ put-row'.ensures round'.result refl refl round'.ensures.1 c.if-way-eq0.true
 
 pub returns-then-way-eq3 : goal.returns-then-way-eq3
 returns-then-way-eq3 c =
@@ -58,7 +58,7 @@ returns-then-way-eq3 c =
     let i = c.loop-band in
     let round' = c.round-w in
     let put-row' = c.put_row in
-    going-ends a.book.now p.0.sound a.band (standing_marks a.book.now start'.result) a.rows.now (standing_marks a.book.now i.w) i.w.rounds i.rows i.invariant.0 round'.result.x round'.result.row (standing_marks a.book.now round'.result) round'.ensures.0 p.2 _ put-row'.ensures round'.result refl refl round'.ensures.1 c.if-way-eq3.true
+    going_ends a.book.now p.0.sound a.band (standing_marks a.book.now start'.result) a.rows.now (standing_marks a.book.now i.w) i.w.rounds i.rows i.invariant.0 round'.result.x round'.result.row (standing_marks a.book.now round'.result) round'.ensures.0 p.2 _ put-row'.ensures round'.result refl refl round'.ensures.1 c.if-way-eq3.true
 
 pub loop-band-smaller : goal.loop-band-smaller
 loop-band-smaller c =
@@ -79,4 +79,4 @@ loop-band-preserved c =
     let i = c.loop-band in
     let round' = c.round-w in
     let put-row' = c.put_row in
-    (going-again a.book.now p.0.sound a.band (standing_marks a.book.now start'.result) a.rows.now (standing_marks a.book.now i.w) i.w.rounds i.rows i.invariant.0 round'.result.x round'.result.row (standing_marks a.book.now round'.result) round'.ensures.0 p.2 _ put-row'.ensures _ round'.ensures.1 c.if-way-eq0.false c.if-way-eq3.false, round'.auto.flow ∙ still'.auto.flow ∙ i.invariant.1)
+    (going_again a.book.now p.0.sound a.band (standing_marks a.book.now start'.result) a.rows.now (standing_marks a.book.now i.w) i.w.rounds i.rows i.invariant.0 round'.result.x round'.result.row (standing_marks a.book.now round'.result) round'.ensures.0 p.2 _ put-row'.ensures _ round'.ensures.1 c.if-way-eq0.false c.if-way-eq3.false, round'.auto.flow ∙ still'.auto.flow ∙ i.invariant.1)
