@@ -1,5 +1,6 @@
 -- What check 1 tells of a book, as facts on numbers.
 -- Assumes nothing.
+use Rattle.std.specs.Prelude.{None}
 use Prim.Native.Nat.{ℕ, ◌+◌, ◌%◌, ◌≤◌}
 use mathlib.Core.Path.{◌≡◌, refl}
 use mathlib.Core.Bool.{Bool, true, false, not, ◌&&◌, and-eq-true_iff}
@@ -9,7 +10,6 @@ use lib.Dec.{leb, eqb}
 use borrow.Author.Tests.{leb-true, le-leb, eqb-true, not-false}
 use native.Mathlib.Omega.{arith}
 use Rattle.book.specs.Format.{u16, u32, entry_is, laid, Laid, modules, nets, pins, first_pin}
-use Rattle.book.specs.declared.Found.TheVariants.{Nothing}
 use Rattle.book.specs.First.{lowest, find_if}
 use Rattle.book.specs.Checks.{least_modules, most_modules, most_nets, most_pins, counted, bad_net, check4}
 use Rattle.book.proofs.Firsts.{passed, both_nothing}
@@ -88,9 +88,9 @@ unfolding counted
 counted_nets s h = leb-true _ _ (and_four (leb least_modules (modules s)) (leb (modules s) most_modules) (leb (nets s) most_nets) (leb (pins s) most_pins) h).2
 
 -- what check 4 tells
-equal : (a b p : ℕ) → find_if (not (eqb a b)) p ≡ Nothing → a ≡ b
+equal : (a b p : ℕ) → find_if (not (eqb a b)) p ≡ None → a ≡ b
 equal a b p h = eqb-true a b (not-false _ (passed _ p h))
 
-pub sum_right : (s : List ℕ) → check4 s ≡ Nothing → first_pin s (nets s) ≡ pins s
+pub sum_right : (s : List ℕ) → check4 s ≡ None → first_pin s (nets s) ≡ pins s
 unfolding check4
 sum_right s h = equal _ _ (nets s) (both_nothing (lowest (bad_net s) (nets s)) _ h).1

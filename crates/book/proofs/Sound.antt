@@ -1,5 +1,6 @@
 -- A book that reads is sound.
 -- Assumes nothing.
+use Rattle.std.specs.Prelude.{Option, Some, None, Result, Ok}
 use Prim.Native.Nat.{ℕ, suc, ◌+◌, ◌-◌, ◌<◌}
 use mathlib.Core.Path.{◌≡◌, refl, sym, ◌∙◌}
 use mathlib.Core.Bool.{true, false, not, ◌&&◌, ◌||◌, true≢false}
@@ -7,13 +8,9 @@ use mathlib.Core.List.{List}
 use lib.Dec.{leb, ltb, eqb}
 use borrow.Author.Tests.{lt-ltb, leb-true, leb-false, ltb-false, eqb-true, eqb-false, not-false}
 use native.Mathlib.Omega.{arith}
-use Rattle.book.specs.declared.Found.{Found}
-use Rattle.book.specs.declared.Found.TheVariants.{At, Nothing}
 use Rattle.book.specs.declared.Book.{Book}
 use Rattle.book.specs.declared.Refusal.{Refusal}
 use Rattle.book.specs.declared.Refusal.TheVariants.{Layout, Counts, Module, Net, Pin, Marks}
-use Rattle.book.specs.declared.Reading.{Reading}
-use Rattle.book.specs.declared.Reading.TheVariants.{Good}
 use Rattle.book.specs.First.{from, is_nothing}
 use Rattle.book.specs.Format.{laid, modules, nets, pins, area, mark, weight, pin_count, pin, first_pin}
 use Rattle.book.specs.Checks.{most_nets, most_modules, most_pins, least_modules, counted, check1, check2, check3, check4, check5, check6, lacks, refuse, book_of, rest_of, read_of}
@@ -24,18 +21,18 @@ use Rattle.book.proofs.Laid.{laid_facts, sum_right}
 use Rattle.line.proofs.Bools.{or_none, and_four}
 
 -- an answer that is no refusal
-accepted : (f : Found) (why : ℕ → Refusal) (r : Reading) (b : Book) → refuse f why r ≡ Good b → (f ≡ Nothing) × (r ≡ Good b)
-accepted (At i) why r b e = let z : ◌≡◌ {A = ℕ} 0 1 = cc in absurd (omega arith)
-accepted Nothing why r b e = (refl, e)
+accepted : (f : Option ℕ) (why : ℕ → Refusal) (r : Result Book Refusal) (b : Book) → refuse f why r ≡ Ok b → (f ≡ None) × (r ≡ Ok b)
+accepted (Some i) why r b e = let z : ◌≡◌ {A = ℕ} 0 1 = cc in absurd (omega arith)
+accepted None why r b e = (refl, e)
 
-unshifted : (k : ℕ) (f : Found) → from k f ≡ Nothing → f ≡ Nothing
-unshifted k (At i) e = let z : ◌≡◌ {A = ℕ} 0 1 = cc in absurd (omega arith)
-unshifted k Nothing e = refl
+unshifted : (k : ℕ) (f : Option ℕ) → from k f ≡ None → f ≡ None
+unshifted k (Some i) e = let z : ◌≡◌ {A = ℕ} 0 1 = cc in absurd (omega arith)
+unshifted k None e = refl
 
 -- where a mark is not lacking, a module has it
-found : (f : Found) → is_nothing f ≡ false → (i : ℕ) × (f ≡ At i)
-found (At i) e = (i, refl)
-found Nothing e = absurd (true≢false e)
+found : (f : Option ℕ) → is_nothing f ≡ false → (i : ℕ) × (f ≡ Some i)
+found (Some i) e = (i, refl)
+found None e = absurd (true≢false e)
 
 has : (s : List ℕ) (k : ℕ) → lacks s k ≡ false → (m : ℕ) × (m < modules s) × (mark s m ≡ k)
 unfolding lacks
@@ -44,18 +41,18 @@ has s k e =
     let h = lowest_at (λ m. eqb (mark s m) k) (modules s) f.0 f.1 in
     (f.0, h.0, eqb-true _ _ h.1)
 
-module _ (s : List ℕ) (b : Book) (e : read_of s ≡ Good b) where
-  rest : (laid s ≡ true) × (rest_of s ≡ Good b)
+module _ (s : List ℕ) (b : Book) (e : read_of s ≡ Ok b) where
+  rest : (laid s ≡ true) × (rest_of s ≡ Ok b)
   unfolding read_of
   rest = let a = accepted (check1 s) (λ _. Layout) _ b e in (not-false _ (passed _ 0 a.0), a.1)
 
   pub record Passed : Type 0 where
     pub two : counted s ≡ true
-    pub three : check3 s ≡ Nothing
-    pub four : check4 s ≡ Nothing
-    pub five : check5 s ≡ Nothing
+    pub three : check3 s ≡ None
+    pub four : check4 s ≡ None
+    pub five : check5 s ≡ None
     pub six : (lacks s 1 || lacks s 2) ≡ false
-    pub counts : Good (book_of s) ≡ Good b
+    pub counts : ◌≡◌ {A = Result Book Refusal} (Ok (book_of s)) (Ok b)
 
   pub passed_all : Passed
   unfolding rest_of
@@ -83,7 +80,7 @@ rises f j g h =
     let t : leb (g (f + suc j)) (g (f + suc j - 1)) ≡ false = rw (lt-ltb 0 (suc j) (omega arith)) at h in
     rw (← e) (leb-false _ _ t)
 
-module _ (s : List ℕ) (b : Book) (e : read_of s ≡ Good b) where
+module _ (s : List ℕ) (b : Book) (e : read_of s ≡ Ok b) where
   all : Passed s b e
   all = passed_all s b e
 
@@ -125,5 +122,5 @@ module _ (s : List ℕ) (b : Book) (e : read_of s ≡ Good b) where
   counts_are = let h = all.counts in cc
 
 -- any two answers that `read`'s contract allows are one
-pub one_answer : (s : List ℕ) (r q : Reading) → r ≡ read_of s → q ≡ read_of s → r ≡ q
+pub one_answer : (s : List ℕ) (r q : Result Book Refusal) → r ≡ read_of s → q ≡ read_of s → r ≡ q
 one_answer s r q h k = h ∙ sym k

@@ -1,9 +1,8 @@
 -- Document 01's numbers of an answer: the number of each refusal, its place, and the counts that the reader answers. Definitions only.
-use Rattle.std.specs.Prelude.{ℕ}
+use Rattle.book.specs.declared.Book.{Book}
+use Rattle.std.specs.Prelude.{ℕ, Result, Ok, Err}
 use Rattle.book.specs.declared.Refusal.{Refusal}
 use Rattle.book.specs.declared.Refusal.TheVariants.{Layout, Counts, Module, Net, Pin, Marks, Gate, Buffer, Side, Move, NetRule, ModuleRule, Values, Stuck}
-use Rattle.book.specs.declared.Reading.{Reading}
-use Rattle.book.specs.declared.Reading.TheVariants.{Good, Refused}
 
 abbrev pub number_of : Refusal → ℕ
 number_of Layout = 1
@@ -46,6 +45,6 @@ pub record Numbers : Type 0 where
   pub nets : ℕ
   pub pins : ℕ
 
-abbrev pub numbers_of : Reading → Numbers
-numbers_of (Good b) = record { number = 0; place = 0; modules = b.modules; nets = b.nets; pins = b.pins }
-numbers_of (Refused r) = record { number = number_of r; place = place_of r; modules = 0; nets = 0; pins = 0 }
+abbrev pub numbers_of : Result Book Refusal → Numbers
+numbers_of (Ok b) = record { number = 0; place = 0; modules = b.modules; nets = b.nets; pins = b.pins }
+numbers_of (Err r) = record { number = number_of r; place = place_of r; modules = 0; nets = 0; pins = 0 }

@@ -4,26 +4,20 @@ ghost use Rattle.book.specs.Format.{laid, Laid, modules, nets, pins, first_pin};
 ghost use Rattle.book.specs.Steps.{step_entry, number_in};
 ghost use Rattle.book.specs.Checks.{bad_module, bad_net, bad_pin, counted, check3, check4, check5, lacks, most_nets};
 
-use crate::{Book, Cursor, Found, Step, area, mark, modules, nets, pin, pin_count, pins, weight};
+use crate::{Book, Cursor, Step, area, mark, modules, nets, pin, pin_count, pins, weight};
 
 // Over an entry of the contents that names this kind, starts its body here and has whole records of `unit` bytes: the number is where the body ends.
 fn entry(book: &[u8], here: Cursor, kind: usize, start: usize, unit: usize) -> Step
     requires { (start ≤ 17179869184) × (0 < unit) }
     ensures { (result ≡ step_entry book.now here.at kind start unit) × (number_in result ≤ start + 4294967295) }
 {
-    let Step::Number(k, c) = here.next_u16(book) else {
-        return Step::End;
-    };
-    let Step::Number(at, d) = c.next_u32(book) else {
-        return Step::End;
-    };
-    let Step::Number(bytes, next) = d.next_u32(book) else {
-        return Step::End;
-    };
+    let (k, c) = here.next_u16(book)?;
+    let (at, d) = c.next_u32(book)?;
+    let (bytes, next) = d.next_u32(book)?;
     if (k == kind) & (at == start) & (bytes % unit == 0) {
-        return Step::Number(start + bytes, next);
+        return Some((start + bytes, next));
     }
-    Step::End
+    None
 }
 
 // Check 1: the contents, walked from the starting cursor, and the end of the last body.
@@ -31,16 +25,16 @@ pub fn is_laid(book: &[u8]) -> bool
     ensures { result ≡ laid book.now }
 {
     let here = Book::start();
-    let Step::Number(count, first) = here.next_u16(book) else {
+    let Some((count, first)) = here.next_u16(book) else {
         return false;
     };
-    let Step::Number(second_body, second) = entry(book, first, 1, 32, 4) else {
+    let Some((second_body, second)) = entry(book, first, 1, 32, 4) else {
         return false;
     };
-    let Step::Number(third_body, third) = entry(book, second, 2, second_body, 4) else {
+    let Some((third_body, third)) = entry(book, second, 2, second_body, 4) else {
         return false;
     };
-    let Step::Number(end, _) = entry(book, third, 3, third_body, 2) else {
+    let Some((end, _)) = entry(book, third, 3, third_body, 2) else {
         return false;
     };
     (count == 3) & (end == book.len())
@@ -67,19 +61,11 @@ fn module_is_bad(book: &[u8], m: usize) -> bool
 }
 
 // Check 3: the first module that is bad.
-pub fn bad_module(book: &[u8]) -> Found
+pub fn bad_module(book: &[u8]) -> Option<usize>
     requires { Laid book.now }
     ensures { result ≡ check3 book.now }
 {
-    let count = modules(book);
-    let mut m = 0;
-    while m < count {
-        if module_is_bad(book, m) {
-            return Found::At(m);
-        }
-        m += 1;
-    }
-    Found::Nothing
+    (0..modules(book)).find(|&m| module_is_bad(book, m))
 }
 
 // A weight or pin count of 0.
@@ -91,25 +77,19 @@ fn net_is_bad(book: &[u8], n: usize) -> bool
 }
 
 // Check 4: the first net that is bad; failing that, the number of nets where the pin counts do not add up.
-pub fn bad_net(book: &[u8]) -> Found
+pub fn bad_net(book: &[u8]) -> Option<usize>
     requires { Laid book.now × (nets book.now ≤ most_nets) }
     ensures { result ≡ check4 book.now }
 {
     let count = nets(book);
     let mut sum = 0;
-    let mut n = 0;
-    while n < count {
+    for n in 0..count {
         if net_is_bad(book, n) {
-            return Found::At(n);
+            return Some(n);
         }
         sum += pin_count(book, n);
-        n += 1;
     }
-    if sum == pins(book) {
-        Found::Nothing
-    } else {
-        Found::At(count)
-    }
+    if sum == pins(book) { None } else { Some(count) }
 }
 
 // The pin at p, pin j of its net: it names no module, or does not rise above the pin before it.
@@ -127,28 +107,22 @@ fn pin_is_bad(book: &[u8], p: usize, j: usize) -> bool
 }
 
 // Check 5: the first pin that is bad, net after net.
-pub fn bad_pin(book: &[u8]) -> Found
+pub fn bad_pin(book: &[u8]) -> Option<usize>
     requires { Laid book.now × (first_pin book.now (nets book.now) ≡ pins book.now) }
     ensures { result ≡ check5 book.now }
 {
-    let count = nets(book);
     let mut p = 0;
-    let mut n = 0;
-    'nets: loop {
-        if n == count {
-            break 'nets Found::Nothing;
-        }
-        let many = pin_count(book, n);
-        let mut j = 0;
-        while j < many {
+    let mut bad = None;
+    'nets: for n in 0..nets(book) {
+        for j in 0..pin_count(book, n) {
             if pin_is_bad(book, p, j) {
-                break 'nets Found::At(p);
+                bad = Some(p);
+                break 'nets;
             }
             p += 1;
-            j += 1;
         }
-        n += 1;
     }
+    bad
 }
 
 // Check 6, of one mark: no module has it.
@@ -156,13 +130,5 @@ pub fn lacks(book: &[u8], wanted: usize) -> bool
     requires { Laid book.now }
     ensures { result ≡ lacks book.now wanted }
 {
-    let count = modules(book);
-    let mut m = 0;
-    while m < count {
-        if mark(book, m) == wanted {
-            return false;
-        }
-        m += 1;
-    }
-    true
+    (0..modules(book)).all(|m| mark(book, m) != wanted)
 }

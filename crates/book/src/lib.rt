@@ -81,36 +81,14 @@ impl Refusal {
         ensures { result ≡ place_of self }
     {
         match self {
-            Refusal::Layout => 0,
-            Refusal::Counts => 0,
-            Refusal::Module(m) => m,
-            Refusal::Net(n) => n,
-            Refusal::Pin(p) => p,
-            Refusal::Marks => 0,
-            Refusal::Gate => 0,
-            Refusal::Buffer => 0,
-            Refusal::Side => 0,
-            Refusal::Move => 0,
-            Refusal::NetRule(n) => n,
-            Refusal::ModuleRule(m) => m,
-            Refusal::Values => 0,
-            Refusal::Stuck => 0,
+            Refusal::Module(at)
+            | Refusal::Net(at)
+            | Refusal::Pin(at)
+            | Refusal::NetRule(at)
+            | Refusal::ModuleRule(at) => at,
+            _ => 0,
         }
     }
-}
-
-// The answer of the reader.
-#[derive(Clone, Copy)]
-pub enum Reading {
-    Good(Book),
-    Refused(Refusal),
-}
-
-// What a search over places finds: a place, or nothing.
-#[derive(Clone, Copy)]
-pub enum Found {
-    At(usize),
-    Nothing,
 }
 
 // A place in a book.
@@ -119,18 +97,8 @@ pub struct Cursor {
     pub at: usize,
 }
 
-// A step of a cursor: the number it stood at and the cursor after it, or the end of the book.
-#[derive(Clone, Copy)]
-pub enum Step {
-    Number(usize, Cursor),
-    End,
-}
-
-fn wide(b: u8) -> usize
-    ensures { (result ≡ b) × (result < 256) }
-{
-    b as usize
-}
+// A step of a cursor: the number it stood at and the cursor after it, or none at the end of the book.
+pub type Step = Option<(usize, Cursor)>;
 
 impl Cursor {
     // Over a little-endian number of 2 bytes.
@@ -140,28 +108,22 @@ impl Cursor {
         let at = self.at;
         let len = book.len();
         if len < 2 {
-            return Step::End;
+            return None;
         }
         if len - 2 < at {
-            return Step::End;
+            return None;
         }
-        Step::Number(
-            wide(book[at]) + 256 * wide(book[at + 1]),
-            Cursor { at: at + 2 },
-        )
+        let number = usize::from(book[at]) + 256 * usize::from(book[at + 1]);
+        Some((number, Cursor { at: at + 2 }))
     }
 
     // Over a little-endian number of 4 bytes.
     pub fn next_u32(self, book: &[u8]) -> Step
         ensures { (result ≡ step_by 4 u32 book.now self.at) × (number_in result < 4294967296) }
     {
-        let Step::Number(low, c) = self.next_u16(book) else {
-            return Step::End;
-        };
-        let Step::Number(high, d) = c.next_u16(book) else {
-            return Step::End;
-        };
-        Step::Number(low + 65536 * high, d)
+        let (low, c) = self.next_u16(book)?;
+        let (high, d) = c.next_u16(book)?;
+        Some((low + 65536 * high, d))
     }
 }
 
@@ -172,8 +134,8 @@ pub fn u16_at(book: &[u8], i: usize) -> usize
 {
     let c = Cursor { at: i };
     match c.next_u16(book) {
-        Step::Number(n, _) => n,
-        Step::End => 0,
+        Some((n, _)) => n,
+        None => 0,
     }
 }
 
@@ -184,8 +146,8 @@ pub fn u32_at(book: &[u8], i: usize) -> usize
 {
     let c = Cursor { at: i };
     match c.next_u32(book) {
-        Step::Number(n, _) => n,
-        Step::End => 0,
+        Some((n, _)) => n,
+        None => 0,
     }
 }
 
@@ -255,26 +217,26 @@ pub fn pin(book: &[u8], p: usize) -> usize
 }
 
 // Checks 2 to 6.
-fn read_laid(book: &[u8]) -> Reading
+fn read_laid(book: &[u8]) -> Result<Book, Refusal>
     requires { Laid book.now }
     ensures { result ≡ rest_of book.now }
 {
     if !checks::is_counted(book) {
-        return Reading::Refused(Refusal::Counts);
+        return Err(Refusal::Counts);
     }
-    if let Found::At(m) = checks::bad_module(book) {
-        return Reading::Refused(Refusal::Module(m));
+    if let Some(m) = checks::bad_module(book) {
+        return Err(Refusal::Module(m));
     }
-    if let Found::At(n) = checks::bad_net(book) {
-        return Reading::Refused(Refusal::Net(n));
+    if let Some(n) = checks::bad_net(book) {
+        return Err(Refusal::Net(n));
     }
-    if let Found::At(p) = checks::bad_pin(book) {
-        return Reading::Refused(Refusal::Pin(p));
+    if let Some(p) = checks::bad_pin(book) {
+        return Err(Refusal::Pin(p));
     }
     if checks::lacks(book, 1) | checks::lacks(book, 2) {
-        return Reading::Refused(Refusal::Marks);
+        return Err(Refusal::Marks);
     }
-    Reading::Good(Book {
+    Ok(Book {
         modules: modules(book),
         nets: nets(book),
         pins: pins(book),
@@ -282,12 +244,12 @@ fn read_laid(book: &[u8]) -> Reading
 }
 
 // Checks 1 to 6, on any bytes.
-pub fn read(book: &[u8]) -> Reading
+pub fn read(book: &[u8]) -> Result<Book, Refusal>
     ensures { result ≡ read_of book.now }
 {
     if checks::is_laid(book) {
         read_laid(book)
     } else {
-        Reading::Refused(Refusal::Layout)
+        Err(Refusal::Layout)
     }
 }

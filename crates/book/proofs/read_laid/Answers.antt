@@ -1,6 +1,6 @@
+use Rattle.std.specs.Prelude.{None}
 use mathlib.Core.Path.{◌≡◌, sym, ◌∙◌, ap₂}
 use mathlib.Core.Bool.{true, false, ◌||◌}
-use Rattle.book.specs.declared.Found.TheVariants.{Nothing}
 use Rattle.book.specs.Checks.{counted, check3, check4, check5, lacks, rest_of}
 use Rattle.book.proofs.Laid.{counted_nets, sum_right}
 use Rattle.book.proofs.read_laid.Goals as goal
@@ -10,13 +10,13 @@ use Rattle.book.proofs.read_laid.Goals.{Else-not-is_counted, In_default, In_defa
 passed2 : (c : Else-not-is_counted) → counted c.args.book.now ≡ true
 passed2 c = sym c.is_counted.ensures ∙ c.if-not-is_counted.false
 
-passed3 : (c : In_default) → check3 c.args.book.now ≡ Nothing
+passed3 : (c : In_default) → check3 c.args.book.now ≡ None
 passed3 c = sym c.bad_module.ensures ∙ c.in_default.is
 
-passed4 : (c : In_default-bad_net) → check4 c.args.book.now ≡ Nothing
+passed4 : (c : In_default-bad_net) → check4 c.args.book.now ≡ None
 passed4 c = sym c.bad_net.ensures ∙ c.in_default-bad_net.is
 
-passed5 : (c : In_default-bad_pin) → check5 c.args.book.now ≡ Nothing
+passed5 : (c : In_default-bad_pin) → check5 c.args.book.now ≡ None
 passed5 c = sym c.bad_pin.ensures ∙ c.in_default-bad_pin.is
 
 pub returns-then-not-is_counted : goal.returns-then-not-is_counted
@@ -25,25 +25,25 @@ returns-then-not-is_counted c =
     let e : counted c.args.book.now ≡ false = sym c.is_counted.ensures ∙ c.if-not-is_counted.true in
     rw e
 
-pub returns-in-At : goal.returns-in-At
+pub returns-in-Some : goal.returns-in-Some
 unfolding rest_of
-returns-in-At c = rw (passed2 (goal.at.returns-in-At c).Else-not-is_counted, sym c.bad_module.ensures ∙ c.in-At.is)
+returns-in-Some c = rw (passed2 (goal.at.returns-in-Some c).Else-not-is_counted, sym c.bad_module.ensures ∙ c.in-Some.is)
 
 pub bad_net-requires : goal.bad_net-requires
 bad_net-requires c = (c.requires, counted_nets _ (passed2 (goal.at.bad_net-requires c).Else-not-is_counted))
 
-pub returns-in-At-bad_net : goal.returns-in-At-bad_net
+pub returns-in-Some-bad_net : goal.returns-in-Some-bad_net
 unfolding rest_of
-returns-in-At-bad_net c =
-    rw (passed2 (goal.at.returns-in-At-bad_net c).Else-not-is_counted, passed3 (goal.at.returns-in-At-bad_net c).In_default, sym c.bad_net.ensures ∙ c.in-At-bad_net.is)
+returns-in-Some-bad_net c =
+    rw (passed2 (goal.at.returns-in-Some-bad_net c).Else-not-is_counted, passed3 (goal.at.returns-in-Some-bad_net c).In_default, sym c.bad_net.ensures ∙ c.in-Some-bad_net.is)
 
 pub bad_pin-requires : goal.bad_pin-requires
 bad_pin-requires c = (c.requires, sum_right _ (passed4 (goal.at.bad_pin-requires c).In_default-bad_net))
 
-pub returns-in-At-bad_pin : goal.returns-in-At-bad_pin
+pub returns-in-Some-bad_pin : goal.returns-in-Some-bad_pin
 unfolding rest_of
-returns-in-At-bad_pin c =
-    rw (passed2 (goal.at.returns-in-At-bad_pin c).Else-not-is_counted, passed3 (goal.at.returns-in-At-bad_pin c).In_default, passed4 (goal.at.returns-in-At-bad_pin c).In_default-bad_net, sym c.bad_pin.ensures ∙ c.in-At-bad_pin.is)
+returns-in-Some-bad_pin c =
+    rw (passed2 (goal.at.returns-in-Some-bad_pin c).Else-not-is_counted, passed3 (goal.at.returns-in-Some-bad_pin c).In_default, passed4 (goal.at.returns-in-Some-bad_pin c).In_default-bad_net, sym c.bad_pin.ensures ∙ c.in-Some-bad_pin.is)
 
 pub returns-then-lacks : goal.returns-then-lacks
 unfolding rest_of

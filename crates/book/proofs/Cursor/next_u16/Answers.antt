@@ -16,5 +16,5 @@ pub returns : goal.returns
 unfolding u16
 returns c =
     let a = c.args in
-    let e : c.wide.result + 256 * c.wide-2.result ≡ u16 a.book.now a.self.at = search rules in
+    let e : c.from.result + 256 * c.from-2.result ≡ u16 a.book.now a.self.at = search rules in
     (does_go 2 u16 a.book.now a.self.at _ (record { at = a.self.at + 2 }) (omega arith) e refl, omega arith)

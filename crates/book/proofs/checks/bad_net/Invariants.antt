@@ -1,7 +1,7 @@
 -- `book::bad_net` meets its contract: no net before `n` is bad, and `sum` is where the pins of net `n` begin. Assumes nothing.
-use Prim.Native.Nat.{◌≤◌, ◌-◌, ◌*◌}
+use Rattle.std.specs.Prelude.{None}
+use Prim.Native.Nat.{◌≤◌, ◌*◌}
 use mathlib.Core.Path.{◌≡◌}
-use Rattle.book.specs.declared.Found.TheVariants.{Nothing}
 use Rattle.book.specs.First.{lowest}
 use Rattle.book.specs.Format.{first_pin}
 use Rattle.book.specs.Checks.{bad_net}
@@ -9,7 +9,4 @@ use Rattle.book.proofs.checks.bad_net.Given as goal
 
 abbrev pub invariant-loop-n : goal.invariant-loop-n
 invariant-loop-n l =
-    (l.n ≤ l.count) × (lowest (bad_net l.book) l.n ≡ Nothing) × (l.sum ≡ first_pin l.book l.n) × (l.sum ≤ 65536 * l.n)
-
-abbrev pub decreases-loop-n : goal.decreases-loop-n
-decreases-loop-n l = l.count - l.n
+    (lowest (bad_net l.book) l.n ≡ None) × (l.sum ≡ first_pin l.book l.n) × (l.sum ≤ 65536 * l.n)

@@ -1,10 +1,10 @@
 -- `book::bad_pin` meets its contract: no net before `n` has a bad pin, none of net `n` before `j` is bad, and `p` is the index of pin `j`
 -- of net `n`. Assumes nothing.
+use Rattle.std.specs.Prelude.{Some}
 use Prim.Native.Nat.{◌<◌}
 use mathlib.Core.Path.{◌≡◌, refl, sym, ◌∙◌, ap}
 use native.Mathlib.Omega.{arith}
 use native.Mathlib.Numerals.{add-one}
-use Rattle.book.specs.declared.Found.TheVariants.{At}
 use Rattle.book.specs.First.{first, lowest}
 use Rattle.book.specs.Format.{first_pin, nets, pins, pin_count}
 use Rattle.book.specs.Checks.{bad_pin_of, bad_pins, check5}
@@ -15,11 +15,11 @@ use Rattle.book.proofs.checks.bad_pin.Goals.{After-pin_is_bad, In-loop-j}
 
 pub nets-init : goal.nets-init
 unfolding first first_pin
-nets-init c = (omega arith, refl, refl)
+nets-init c = (refl, refl, refl)
 
 pub loop-j-init : goal.loop-j-init
 unfolding first lowest
-loop-j-init c = (omega arith, omega arith, refl)
+loop-j-init c = (c.nets.invariant.0, omega arith, refl)
 
 -- pin j of net n is within the pin body
 within : (c : In-loop-j) → c.loop-j.p < pins c.args.book.now
@@ -40,7 +40,7 @@ overflow_add-p c = omega (arith, within (goal.at.overflow_add-p c).In-loop-j)
 pub loop-j-preserved : goal.loop-j-preserved
 loop-j-preserved c =
     let i = c.loop-j in
-    (omega arith, omega arith, lowest_more _ i.j i.invariant.2 (tested (goal.at.loop-j-preserved c).After-pin_is_bad ∙ c.if-pin_is_bad.false))
+    (i.invariant.0, omega arith, lowest_more _ i.j i.invariant.2 (tested (goal.at.loop-j-preserved c).After-pin_is_bad ∙ c.if-pin_is_bad.false))
 
 pub nets-preserved : goal.nets-preserved
 unfolding first_pin
@@ -49,17 +49,17 @@ nets-preserved c =
     let o = c.nets in
     let s = c.args.book.now in
     let e : i.j ≡ pin_count s o.n = omega arith in (
-      omega arith,
+      i.invariant.0,
       rw add-one (omega arith),
       first_more (bad_pins s) o.n o.invariant.2 (rw (lowest_ended (bad_pin_of s o.n) i.j (pin_count s o.n) i.invariant.2 e)),
     )
 
-pub returns-then-n-count : goal.returns-then-n-count
+pub returns-after-nets : goal.returns-after-nets
 unfolding check5
-returns-then-n-count c =
+returns-after-nets c =
     let o = c.nets in
     let e : o.n ≡ nets c.args.book.now = omega arith in
-    rw (← e) (sym o.invariant.2)
+    o.invariant.0 ∙ rw (← e) (sym o.invariant.2)
 
 pub returns-then-pin_is_bad : goal.returns-then-pin_is_bad
 unfolding check5
@@ -69,4 +69,4 @@ returns-then-pin_is_bad c =
     let s = c.args.book.now in
     let l : i.j < pin_count s o.n = omega arith in
     let f = lowest_found (bad_pin_of s o.n) i.j (pin_count s o.n) i.invariant.2 (tested (goal.at.returns-then-pin_is_bad c).After-pin_is_bad ∙ c.if-pin_is_bad.true) l in
-    sym (first_found (bad_pins s) o.n (nets s) i.p o.invariant.2 (rw f (ap At (sym i.invariant.1))) (omega arith))
+    sym (first_found (bad_pins s) o.n (nets s) i.p o.invariant.2 (rw f (ap Some (sym i.invariant.1))) (omega arith))

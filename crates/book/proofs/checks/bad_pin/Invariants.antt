@@ -1,21 +1,15 @@
 -- `book::bad_pin` meets its contract: no net before `n` has a bad pin, none of net `n` before `j` is bad, and `p` is the index of pin `j`
 -- of net `n`. Assumes nothing.
-use Prim.Native.Nat.{◌+◌, ◌≤◌, ◌-◌}
+use Rattle.std.specs.Prelude.{None}
+use Prim.Native.Nat.{◌+◌}
 use mathlib.Core.Path.{◌≡◌}
-use Rattle.book.specs.declared.Found.TheVariants.{Nothing}
 use Rattle.book.specs.First.{first, lowest}
 use Rattle.book.specs.Format.{first_pin}
 use Rattle.book.specs.Checks.{bad_pin_of, bad_pins}
 use Rattle.book.proofs.checks.bad_pin.Given as goal
 
 abbrev pub invariant-loop-j : goal.invariant-loop-j
-invariant-loop-j l = (l.j ≤ l.many) × (l.p ≡ first_pin l.book l.n + l.j) × (lowest (bad_pin_of l.book l.n) l.j ≡ Nothing)
-
-abbrev pub decreases-loop-j : goal.decreases-loop-j
-decreases-loop-j l = l.many - l.j
+invariant-loop-j l = (l.bad ≡ None) × (l.p ≡ first_pin l.book l.n + l.j) × (lowest (bad_pin_of l.book l.n) l.j ≡ None)
 
 abbrev pub invariant-nets : goal.invariant-nets
-invariant-nets l = (l.n ≤ l.count) × (l.p ≡ first_pin l.book l.n) × (first (bad_pins l.book) l.n ≡ Nothing)
-
-abbrev pub decreases-nets : goal.decreases-nets
-decreases-nets l = l.count - l.n
+invariant-nets l = (l.bad ≡ None) × (l.p ≡ first_pin l.book l.n) × (first (bad_pins l.book) l.n ≡ None)
