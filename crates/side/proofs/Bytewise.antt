@@ -1,5 +1,6 @@
 -- Two sides taken byte by byte: `and` of their bytes is what is on both, `or` what is on either; both fit the book again, and together they cost no more.
 -- Assumes nothing.
+use Rattle.std.specs.Prelude.{Ok}
 use Prim.Native.Nat.{ℕ, zero, suc, ◌+◌, ◌/◌, ◌%◌, ◌^◌, ◌≤◌, ◌<◌}
 use mathlib.Core.Path.{◌≡◌, refl, sym, ap, ap₂, ◌∙◌}
 use mathlib.Core.Bool.{Bool, true, false, ◌&&◌, ◌||◌}
@@ -16,7 +17,6 @@ use Rattle.book.specs.Format.{modules}
 use Rattle.book.specs.Sound.{Sound}
 use Rattle.book.specs.Cards.{nets_of, card_of}
 use Rattle.book.proofs.Sound.{sound}
-use Rattle.side.specs.declared.Priced.TheVariants.{Price}
 use Rattle.side.specs.Sides.{bit_at, side_of, bytes_for, Bytes, SpareClear, bytewise, and_of, or_of}
 use Rattle.side.specs.Given.{Fits}
 use Rattle.side.specs.Prices.{priced}
@@ -122,11 +122,11 @@ module _ (s l k : List ℕ) (p : Fits s l) (q : Fits s k) where
 pub record Joined (s l k : List ℕ) (p q : ℕ) : Type 0 where
   pub inner : ℕ
   pub outer : ℕ
-  pub inner_is : priced s (and_of l k) ≡ Price inner
-  pub outer_is : priced s (or_of l k) ≡ Price outer
+  pub inner_is : priced s (and_of l k) ≡ Ok inner
+  pub outer_is : priced s (or_of l k) ≡ Ok outer
   pub no_more : inner + outer ≤ p + q
 
-pub price_submodular : (s l k : List ℕ) (p q : ℕ) → Bytes l → Bytes k → priced s l ≡ Price p → priced s k ≡ Price q → Joined s l k p q
+pub price_submodular : (s l k : List ℕ) (p q : ℕ) → Bytes l → Bytes k → priced s l ≡ Ok p → priced s k ≡ Ok q → Joined s l k p q
 price_submodular s l k p q f g e h =
     let a = price_tells s l p e in
     let b = price_tells s k q h in

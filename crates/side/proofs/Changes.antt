@@ -1,5 +1,7 @@
 -- Laws of the call that tells what a move changes: its answer is one; it is a change exactly where the book reads, the side fits and the module is free, and
 -- then the difference of two prices; it refuses exactly when document 01 says; and what lies beyond the needed bytes is not read. Assumes nothing.
+use Rattle.std.specs.Prelude.{Result, Ok, Err, ⊤}
+use Rattle.book.specs.declared.Book.{Book}
 use Prim.Native.Nat.{ℕ}
 use mathlib.Core.Path.{◌≡◌, refl, sym, ap, ap₂, subst, ◌∙◌}
 use mathlib.Core.Bool.{Bool, true, false, true≢false, and-eq-true_iff}
@@ -9,18 +11,12 @@ use lib.Dec.{ltb, eqb}
 use lib.IntN.{ℤ, pos, ◌-ℤ◌}
 use lib.ListN.{take}
 use borrow.Author.Tests.{lt-ltb, eq-eqb, eqb-true, ltb-true}
-use Rattle.book.specs.declared.Reading.{Reading}
-use Rattle.book.specs.declared.Reading.TheVariants as reading
 use Rattle.book.specs.declared.Refusal.{Refusal}
 use Rattle.book.specs.declared.Refusal.TheVariants.{Move}
 use Rattle.book.specs.Format.{modules, mark}
 use Rattle.book.specs.Checks.{read_of}
 use Rattle.book.specs.Answer.{number_of}
 use Rattle.book.proofs.Sound.{sound}
-use Rattle.side.specs.declared.Given.{Given}
-use Rattle.side.specs.declared.Given.TheVariants as given
-use Rattle.side.specs.declared.Moved.{Moved}
-use Rattle.side.specs.declared.Moved.TheVariants.{Change, Refused}
 use Rattle.side.specs.Sides.{side_of, bytes_for, Bytes}
 use Rattle.side.specs.Given.{Fits, Reads}
 use Rattle.side.specs.Given as page
@@ -30,7 +26,7 @@ use Rattle.side.proofs.Unread.{one_side, one_given}
 use Rattle.side.proofs.Alike.{alike_price, alike_flipped}
 
 -- any two answers that `change`'s contract allows are one
-pub change_one : (s l : List ℕ) (m : ℕ) (r q : Moved) → r ≡ changed s l m → q ≡ changed s l m → r ≡ q
+pub change_one : (s l : List ℕ) (m : ℕ) (r q : Result ℤ Refusal) → r ≡ changed s l m → q ≡ changed s l m → r ≡ q
 change_one s l m r q h k = h ∙ sym k
 
 module _ (s : List ℕ) (m : ℕ) where
@@ -51,32 +47,32 @@ module _ (s l : List ℕ) (m : ℕ) where
     pub free : Free s m
     pub is : z ≡ change_of s (side_of l) m
 
-  answer : (z : ℤ) (g : Given) (b : Bool) → page.given s l ≡ g → is_free s m ≡ b → change_after g (change_if b (change_of s (side_of l) m)) ≡ Change z → Changed z
-  answer z given.Good true e f h =
+  answer : (z : ℤ) (g : Result ⊤ Refusal) (b : Bool) → page.given s l ≡ g → is_free s m ≡ b → change_after g (change_if b (change_of s (side_of l) m)) ≡ Ok z → Changed z
+  answer z (Ok tt) true e f h =
       let t = given_tells s l e in
       let q : change_of s (side_of l) m ≡ z = cc in
       record { reads = t.0; fits = t.1; free = free_tells s m f; is = sym q }
-  answer z given.Good false e f h = let a : ◌≡◌ {A = ℕ} 0 1 = cc in absurd (omega arith)
-  answer z (given.Refused why) b e f h = let a : ◌≡◌ {A = ℕ} 0 1 = cc in absurd (omega arith)
+  answer z (Ok tt) false e f h = let a : ◌≡◌ {A = ℕ} 0 1 = cc in absurd (omega arith)
+  answer z (Err why) b e f h = let a : ◌≡◌ {A = ℕ} 0 1 = cc in absurd (omega arith)
 
-  pub change_tells : (z : ℤ) → changed s l m ≡ Change z → Changed z
+  pub change_tells : (z : ℤ) → changed s l m ≡ Ok z → Changed z
   unfolding changed changed_good
   change_tells z e = answer z (page.given s l) (is_free s m) refl refl e
 
   module _ (h : Bytes l) where
-    pub change_answers : Reads s → Fits s l → Free s m → changed s l m ≡ Change (change_of s (side_of l) m)
+    pub change_answers : Reads s → Fits s l → Free s m → changed s l m ≡ Ok (change_of s (side_of l) m)
     unfolding changed changed_good
     change_answers r f i = rw (given_passes s l h r f, free_passes s m i)
 
-    why : (w : Refusal) (g : Given) (b : Bool) → page.given s l ≡ g → is_free s m ≡ b → change_after g (change_if b (change_of s (side_of l) m)) ≡ Refused w → RefusesMove s l m w
-    why w given.Good true e f k = let a : ◌≡◌ {A = ℕ} 0 1 = cc in absurd (omega arith)
-    why w given.Good false e f k =
+    why : (w : Refusal) (g : Result ⊤ Refusal) (b : Bool) → page.given s l ≡ g → is_free s m ≡ b → change_after g (change_if b (change_of s (side_of l) m)) ≡ Err w → RefusesMove s l m w
+    why w (Ok tt) true e f k = let a : ◌≡◌ {A = ℕ} 0 1 = cc in absurd (omega arith)
+    why w (Ok tt) false e f k =
         let t = given_tells s l e in
         let u : Move ≡ w = cc in
         subst (RefusesMove s l m) u (fixed t.0 t.1 (λ i. true≢false (sym (free_passes s m i) ∙ f)))
-    why w (given.Refused v) b e f k = let u : v ≡ w = cc in side (given_refuses s l h w (e ∙ ap given.Refused u))
+    why w (Err v) b e f k = let u : v ≡ w = cc in side (given_refuses s l h w (e ∙ ap Err u))
 
-    pub change_refuses : (w : Refusal) → changed s l m ≡ Refused w → RefusesMove s l m w
+    pub change_refuses : (w : Refusal) → changed s l m ≡ Err w → RefusesMove s l m w
     unfolding changed changed_good
     change_refuses w e = why w (page.given s l) (is_free s m) refl refl e
 
@@ -84,7 +80,7 @@ module _ (s l : List ℕ) (m : ℕ) where
     is_fixed true e f = absurd (f (free_tells s m e))
     is_fixed false e f = e
 
-    pub refuses_change : {w : Refusal} → RefusesMove s l m w → changed s l m ≡ Refused w
+    pub refuses_change : {w : Refusal} → RefusesMove s l m w → changed s l m ≡ Err w
     unfolding changed changed_good
     refuses_change (side r) = rw (refuses_given s l h r)
     refuses_change (fixed r f n) = rw (given_passes s l h r f, is_fixed (is_free s m) refl n)
@@ -99,12 +95,12 @@ pub change_unread : (s l k : List ℕ) (m : ℕ) → take (bytes_for (modules s)
 unfolding changed changed_good page.given
 change_unread s l k m e = go (read_of s) refl
   where
-    go : (r : Reading) → read_of s ≡ r →
+    go : (r : Result Book Refusal) → read_of s ≡ r →
         change_after (page.after_read (read_of s) (page.given_sound s l)) (change_if (is_free s m) (change_of s (side_of l) m)) ≡
         change_after (page.after_read (read_of s) (page.given_sound s k)) (change_if (is_free s m) (change_of s (side_of k) m))
-    go (reading.Good b) h =
+    go (Ok b) h =
         let a = one_side s l k e in
         let before = alike_price s (side_of l) (side_of k) a (sound s b h) in
         let after = alike_price s (flipped (side_of l) m) (flipped (side_of k) m) (alike_flipped s (side_of l) (side_of k) a m) (sound s b h) in
         ap₂ change_after (one_given s l k e) (ap (change_if (is_free s m)) (ap₂ (λ (p q : ℕ). pos p -ℤ pos q) after before))
-    go (reading.Refused w) h = rw h
+    go (Err w) h = rw h

@@ -1,11 +1,10 @@
 -- The test `separates` says that a side separates, and passes wherever it does. Assumes nothing.
+use Rattle.std.specs.Prelude.{Option, Some, None}
 use Prim.Native.Nat.{ℕ}
 use mathlib.Core.Path.{◌≡◌, refl, ap}
 use mathlib.Core.Bool.{Bool, true, false, not, ◌&&◌, ◌||◌, false≢true}
 use mathlib.Core.List.{List}
 use lib.Dec.{T, eqb, eqb→eq}
-use Rattle.book.specs.declared.Found.{Found}
-use Rattle.book.specs.declared.Found.TheVariants.{At, Nothing}
 use Rattle.book.specs.First.{lowest, is_nothing}
 use Rattle.book.proofs.Firsts.{lowest_none, none_lowest}
 use Rattle.line.specs.Card.{Side, Separates}
@@ -14,9 +13,9 @@ use Rattle.book.specs.Cards.{card_of}
 use Rattle.side.specs.Given.{misplaced, separates}
 
 module _ (s : List ℕ) (x : Side) where
-  nothing : (f : Found) → is_nothing f ≡ true → f ≡ Nothing
-  nothing (At i) e = absurd (false≢true e)
-  nothing Nothing e = refl
+  nothing : (f : Option ℕ) → is_nothing f ≡ true → f ≡ None
+  nothing (Some i) e = absurd (false≢true e)
+  nothing None e = refl
 
   pub test_separates : separates s x ≡ true → Separates (card_of s) x
   unfolding separates misplaced

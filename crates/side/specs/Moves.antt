@@ -1,5 +1,5 @@
 -- The call that tells what a move changes: what it answers, whatever the bytes. Definitions only.
-use Rattle.std.specs.Prelude.{ℕ, ◌<◌, ◌≡◌, Bool, true, false, not, cond, ◌&&◌, ◌||◌, List, eqb, ltb, ℤ, pos, ◌-ℤ◌}
+use Rattle.std.specs.Prelude.{ℕ, ◌<◌, ◌≡◌, Bool, true, false, not, cond, ◌&&◌, ◌||◌, List, eqb, ltb, ℤ, pos, ◌-ℤ◌, Result, Ok, Err, ⊤}
 use Rattle.line.specs.Card.{Net, Side, outside, both, touches, price}
 use Rattle.line.specs.Flow.{only}
 use Rattle.book.specs.Format.{modules, mark}
@@ -7,10 +7,6 @@ use Rattle.book.specs.Cards.{nets_of}
 use Rattle.book.specs.Answer.{number_of, place_of}
 use Rattle.book.specs.declared.Refusal.{Refusal}
 use Rattle.book.specs.declared.Refusal.TheVariants.{Move}
-use Rattle.side.specs.declared.Given.{Given}
-use Rattle.side.specs.declared.Given.TheVariants as given
-use Rattle.side.specs.declared.Moved.{Moved}
-use Rattle.side.specs.declared.Moved.TheVariants.{Change, Refused}
 use Rattle.side.specs.declared.Apart.{Apart}
 use Rattle.side.specs.Sides.{side_of}
 use Rattle.side.specs.Given as page
@@ -36,20 +32,20 @@ abbrev pub change_of : List ℕ → Side → ℕ → ℤ
 change_of s x m = pos (price (nets_of s) (flipped x m)) -ℤ pos (price (nets_of s) x)
 
 -- check 10 on a side that has passed the others
-abbrev pub change_if : Bool → ℤ → Moved
-change_if true z = Change z
-change_if false z = Refused Move
+abbrev pub change_if : Bool → ℤ → Result ℤ Refusal
+change_if true z = Ok z
+change_if false z = Err Move
 
-unfoldable pub changed_good : List ℕ → List ℕ → ℕ → Moved
+unfoldable pub changed_good : List ℕ → List ℕ → ℕ → Result ℤ Refusal
 changed_good s l m = change_if (is_free s m) (change_of s (side_of l) m)
 
 -- the refusal of the checks before, or the rest
-abbrev pub change_after : Given → Moved → Moved
-change_after given.Good rest = rest
-change_after (given.Refused why) rest = Refused why
+abbrev pub change_after : Result ⊤ Refusal → Result ℤ Refusal → Result ℤ Refusal
+change_after (Ok tt) rest = rest
+change_after (Err why) rest = Err why
 
 -- the answer, whatever the bytes
-unfoldable pub changed : List ℕ → List ℕ → ℕ → Moved
+unfoldable pub changed : List ℕ → List ℕ → ℕ → Result ℤ Refusal
 changed s l m = change_after (page.given s l) (changed_good s l m)
 
 -- a net apart from module m: whether m has a pin on it, and whether a pin of another module is on the side, and off it
@@ -70,6 +66,6 @@ pub record Numbers : Type 0 where
   pub place : ℕ
   pub change : ℤ
 
-abbrev pub numbers_of : Moved → Numbers
-numbers_of (Change z) = record { number = 0; place = 0; change = z }
-numbers_of (Refused why) = record { number = number_of why; place = place_of why; change = pos 0 }
+abbrev pub numbers_of : Result ℤ Refusal → Numbers
+numbers_of (Ok z) = record { number = 0; place = 0; change = z }
+numbers_of (Err why) = record { number = number_of why; place = place_of why; change = pos 0 }

@@ -1,13 +1,10 @@
 -- The call that prices a side: what it answers, whatever the bytes, and the largest sums of a book. Definitions only.
-use Rattle.std.specs.Prelude.{ℕ, ◌*◌, List}
+use Rattle.book.specs.declared.Refusal.{Refusal}
+use Rattle.std.specs.Prelude.{ℕ, ◌*◌, List, Result, Ok, Err, ⊤}
 use Rattle.line.specs.Card.{price}
 use Rattle.book.specs.Checks.{most_modules, most_nets}
 use Rattle.book.specs.Cards.{nets_of}
 use Rattle.book.specs.Answer.{number_of, place_of}
-use Rattle.side.specs.declared.Given.{Given}
-use Rattle.side.specs.declared.Given.TheVariants as given
-use Rattle.side.specs.declared.Priced.{Priced}
-use Rattle.side.specs.declared.Priced.TheVariants.{Price, Refused}
 use Rattle.side.specs.Sides.{side_of}
 use Rattle.side.specs.Given as page
 
@@ -22,12 +19,12 @@ abbrev pub most_price : ℕ
 most_price = most_number * most_nets
 
 -- the price, where no check refuses
-abbrev pub price_after : Given → ℕ → Priced
-price_after given.Good p = Price p
-price_after (given.Refused why) p = Refused why
+abbrev pub price_after : Result ⊤ Refusal → ℕ → Result ℕ Refusal
+price_after (Ok tt) p = Ok p
+price_after (Err why) p = Err why
 
 -- the answer, whatever the bytes
-unfoldable pub priced : List ℕ → List ℕ → Priced
+unfoldable pub priced : List ℕ → List ℕ → Result ℕ Refusal
 priced s l = price_after (page.given s l) (price (nets_of s) (side_of l))
 
 -- document 01's numbers of an answer: 0 is done, and with a refusal every other number is 0
@@ -36,6 +33,6 @@ pub record Numbers : Type 0 where
   pub place : ℕ
   pub price : ℕ
 
-abbrev pub numbers_of : Priced → Numbers
-numbers_of (Price p) = record { number = 0; place = 0; price = p }
-numbers_of (Refused why) = record { number = number_of why; place = place_of why; price = 0 }
+abbrev pub numbers_of : Result ℕ Refusal → Numbers
+numbers_of (Ok p) = record { number = 0; place = 0; price = p }
+numbers_of (Err why) = record { number = number_of why; place = place_of why; price = 0 }

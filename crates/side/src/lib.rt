@@ -12,26 +12,7 @@ ghost use Rattle.side.specs.Given.{Lent, AtNet, misplaced, separates, is_short, 
 ghost use Rattle.side.specs.Prices.{most_number, most_area, most_price, priced};
 ghost use Rattle.side.specs.Moves.{is_free, change_of, changed_good, changed, apart_of, crosses_with};
 
-// The answer of the call that prices a side.
-#[derive(Clone, Copy)]
-pub enum Priced {
-    Price(usize),
-    Refused(book::Refusal),
-}
-
-// The answer of the call that tells what a move changes.
-#[derive(Clone, Copy)]
-pub enum Moved {
-    Change(i64),
-    Refused(book::Refusal),
-}
-
-// What the checks before either call find of a given side.
-#[derive(Clone, Copy)]
-enum Given {
-    Good,
-    Refused(book::Refusal),
-}
+use book::Refusal;
 
 // A net apart from one module: whether that module has a pin on it, and whether another module's pin is on the side, and off it.
 #[derive(Clone, Copy)]
@@ -75,10 +56,8 @@ fn ones(side: &[u8], n: usize) -> usize
     ensures { (result ≡ count_to (side_of side.now) (n * 8)) × (result ≤ n * 8) }
 {
     let mut sum = 0;
-    let mut i = 0;
-    while i < n {
+    for i in 0..n {
         sum += u8::count_ones(side[i]) as usize;
-        i += 1;
     }
     sum
 }
@@ -121,15 +100,7 @@ pub fn separates(book: &[u8], side: &[u8]) -> bool
     requires { Lent book.now side.now }
     ensures { result ≡ separates book.now (side_of side.now) }
 {
-    let count = book::modules(book);
-    let mut m = 0;
-    while m < count {
-        if misplaced(book, side, m) {
-            return false;
-        }
-        m += 1;
-    }
-    true
+    (0..book::modules(book)).all(|m| !misplaced(book, side, m))
 }
 
 // What module m adds to the area of a side: its own area where it is on it.
@@ -149,12 +120,9 @@ pub fn area(book: &[u8], side: &[u8]) -> usize
     requires { Lent book.now side.now }
     ensures { (result ≡ area_of book.now (side_of side.now)) × (result ≤ most_area) }
 {
-    let count = book::modules(book);
     let mut sum = 0;
-    let mut m = 0;
-    while m < count {
+    for m in 0..book::modules(book) {
         sum += area_at(book, side, m);
-        m += 1;
     }
     sum
 }
@@ -172,15 +140,12 @@ pub fn crosses(book: &[u8], side: &[u8], n: usize, first: usize) -> bool
     requires { Lent book.now side.now × AtNet book.now n first }
     ensures { result ≡ crosses (side_of side.now) (net_of book.now n) }
 {
-    let many = book::pin_count(book, n);
     let mut on = false;
     let mut off = false;
-    let mut j = 0;
-    while j < many {
+    for j in 0..book::pin_count(book, n) {
         let b = inside(side, pin_of(book, n, first, j));
         on = on | b;
         off = off | !b;
-        j += 1;
     }
     on & off
 }
@@ -206,14 +171,11 @@ pub fn price_of(book: &[u8], side: &[u8]) -> usize
     requires { Lent book.now side.now }
     ensures { (result ≡ price (nets_of book.now) (side_of side.now)) × (result ≤ most_price) }
 {
-    let count = book::nets(book);
     let mut sum = 0;
     let mut first = 0;
-    let mut n = 0;
-    while n < count {
+    for n in 0..book::nets(book) {
         sum += cost(book, side, n, first);
         first += book::pin_count(book, n);
-        n += 1;
     }
     sum
 }
@@ -223,19 +185,16 @@ fn apart_from(book: &[u8], side: &[u8], n: usize, first: usize, m: usize) -> Apa
     requires { Lent book.now side.now × AtNet book.now n first }
     ensures { result ≡ apart_of (side_of side.now) m (net_of book.now n) }
 {
-    let many = book::pin_count(book, n);
     let mut has = false;
     let mut on = false;
     let mut off = false;
-    let mut j = 0;
-    while j < many {
+    for j in 0..book::pin_count(book, n) {
         let p = pin_of(book, n, first, j);
         let b = inside(side, p);
         let own = p == m;
         has = has | own;
         on = on | (b & !own);
         off = off | (!b & !own);
-        j += 1;
     }
     Apart { has, on, off }
 }
@@ -261,19 +220,16 @@ pub fn change_of(book: &[u8], side: &[u8], m: usize) -> i64
     ensures { result ≡ change_of book.now (side_of side.now) m }
 {
     let on = inside(side, m);
-    let count = book::nets(book);
     let mut gained = 0;
     let mut lost = 0;
     let mut first = 0;
-    let mut n = 0;
-    while n < count {
+    for n in 0..book::nets(book) {
         let a = apart_from(book, side, n, first, m);
         let before = crosses_with(a, on);
         let after = crosses_with(a, !on);
         gained += weigh(book, n, after & !before);
         lost += weigh(book, n, before & !after);
         first += book::pin_count(book, n);
-        n += 1;
     }
     less(gained, lost)
 }
@@ -295,37 +251,33 @@ pub fn is_good(book: &[u8], side: &[u8]) -> bool
 }
 
 // Checks 8 and 9 of a book that reads.
-fn check_sound(book: &[u8], side: &[u8]) -> Given
+fn check_sound(book: &[u8], side: &[u8]) -> Result<(), Refusal>
     requires { Sound book.now }
     ensures { result ≡ given_sound book.now side.now }
 {
     if is_short(book, side) {
-        return Given::Refused(book::Refusal::Buffer);
+        return Err(Refusal::Buffer);
     }
     if !is_good(book, side) {
-        return Given::Refused(book::Refusal::Side);
+        return Err(Refusal::Side);
     }
-    Given::Good
+    Ok(())
 }
 
 // Checks 1 to 6, 8 and 9, on any bytes.
-fn check(book: &[u8], side: &[u8]) -> Given
+fn check(book: &[u8], side: &[u8]) -> Result<(), Refusal>
     ensures { result ≡ given book.now side.now }
 {
-    match book::read(book) {
-        book::Reading::Good(_) => check_sound(book, side),
-        book::Reading::Refused(why) => Given::Refused(why),
-    }
+    book::read(book)?;
+    check_sound(book, side)
 }
 
 // The price of a side, on any bytes: checks 1 to 6, 8 and 9 first.
-pub fn price(book: &[u8], side: &[u8]) -> Priced
+pub fn price(book: &[u8], side: &[u8]) -> Result<usize, Refusal>
     ensures { result ≡ priced book.now side.now }
 {
-    match check(book, side) {
-        Given::Good => Priced::Price(price_of(book, side)),
-        Given::Refused(why) => Priced::Refused(why),
-    }
+    check(book, side)?;
+    Ok(price_of(book, side))
 }
 
 // Whether m is a free module of the book.
@@ -341,23 +293,20 @@ pub fn is_free(book: &[u8], m: usize) -> bool
 }
 
 // Check 10 on a good side, and the change.
-fn change_good(book: &[u8], side: &[u8], m: usize) -> Moved
+fn change_good(book: &[u8], side: &[u8], m: usize) -> Result<i64, Refusal>
     requires { Lent book.now side.now }
     ensures { result ≡ changed_good book.now side.now m }
 {
-    if is_free(book, m) {
-        Moved::Change(change_of(book, side, m))
-    } else {
-        Moved::Refused(book::Refusal::Move)
+    if !is_free(book, m) {
+        return Err(Refusal::Move);
     }
+    Ok(change_of(book, side, m))
 }
 
 // What moving one module to the other side changes in the price, on any bytes: checks 1 to 6 and 8 to 10 first.
-pub fn change(book: &[u8], side: &[u8], m: u32) -> Moved
+pub fn change(book: &[u8], side: &[u8], m: u32) -> Result<i64, Refusal>
     ensures { result ≡ changed book.now side.now m }
 {
-    match check(book, side) {
-        Given::Good => change_good(book, side, m as usize),
-        Given::Refused(why) => Moved::Refused(why),
-    }
+    check(book, side)?;
+    change_good(book, side, m as usize)
 }

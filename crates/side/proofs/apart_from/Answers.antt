@@ -17,7 +17,7 @@ loop-j-init c = let a = c.args in
     let x = side_of a.side.now in
     let o = only a.m in
     let none : (y : Side) → _ = λ y. sym (touches_start a.book.now y a.n) in
-    (omega arith, none o, none (both x (outside o)), none (both (outside x) (outside o)))
+    (none o, none (both x (outside o)), none (both (outside x) (outside o)))
 
 pub loop-j-preserved : goal.loop-j-preserved
 loop-j-preserved c = let a = c.args in
@@ -29,10 +29,9 @@ loop-j-preserved c = let a = c.args in
     let p = c.pin_of-p.ensures.0 in
     let b = c.inside-b.ensures ∙ ap x p in
     let own = ap o p in (
-      omega arith,
-      ap₂ (λ (p q : Bool). p || q) i.invariant.1 own ∙ sym (touches_next s o a.n i.j l),
-      ap₂ (λ (p q : Bool). p || q) i.invariant.2 (ap₂ (λ (p q : Bool). p && not q) b own) ∙ sym (touches_next s (both x (outside o)) a.n i.j l),
-      ap₂ (λ (p q : Bool). p || q) i.invariant.3 (ap₂ (λ (p q : Bool). not p && not q) b own) ∙ sym (touches_next s (both (outside x) (outside o)) a.n i.j l),
+      ap₂ (λ (p q : Bool). p || q) i.invariant.0 own ∙ sym (touches_next s o a.n i.j l),
+      ap₂ (λ (p q : Bool). p || q) i.invariant.1 (ap₂ (λ (p q : Bool). p && not q) b own) ∙ sym (touches_next s (both x (outside o)) a.n i.j l),
+      ap₂ (λ (p q : Bool). p || q) i.invariant.2 (ap₂ (λ (p q : Bool). not p && not q) b own) ∙ sym (touches_next s (both (outside x) (outside o)) a.n i.j l),
     )
 
 pub returns : goal.returns
@@ -44,7 +43,7 @@ returns c = let a = c.args in
     let e : i.j ≡ pin_count s a.n = omega arith in
     let all : (y : Side) → touches y (take i.j (pins_of s a.n)) ≡ touches y (pins_of s a.n) =
     λ y. ap (λ (k : ℕ). touches y (take k (pins_of s a.n))) e ∙ touches_all s y a.n in
-    let has = i.invariant.1 ∙ all o in
-    let on = i.invariant.2 ∙ all (both x (outside o)) in
-    let off = i.invariant.3 ∙ all (both (outside x) (outside o)) in
+    let has = i.invariant.0 ∙ all o in
+    let on = i.invariant.1 ∙ all (both x (outside o)) in
+    let off = i.invariant.2 ∙ all (both (outside x) (outside o)) in
     λ k. record { has = has k; on = on k; off = off k }

@@ -1,5 +1,4 @@
 -- `side::apart_from` meets its contract: each flag tells of the pins of net n before pin `j`. Assumes nothing.
-use Prim.Native.Nat.{◌≤◌, ◌-◌}
 use mathlib.Core.Path.{◌≡◌}
 use lib.ListN.{take}
 use Rattle.line.specs.Card.{outside, both, touches}
@@ -9,10 +8,6 @@ use Rattle.side.specs.Sides.{side_of}
 use Rattle.side.proofs.apart_from.Given as goal
 
 abbrev pub invariant-loop-j : goal.invariant-loop-j
-invariant-loop-j l = (l.j ≤ l.many)
-    × (l.has ≡ touches (only l.m) (take l.j (pins_of l.book l.n)))
+invariant-loop-j l = (l.has ≡ touches (only l.m) (take l.j (pins_of l.book l.n)))
     × (l.on ≡ touches (both (side_of l.side) (outside (only l.m))) (take l.j (pins_of l.book l.n)))
     × (l.off ≡ touches (both (outside (side_of l.side)) (outside (only l.m))) (take l.j (pins_of l.book l.n)))
-
-abbrev pub decreases-loop-j : goal.decreases-loop-j
-decreases-loop-j l = l.many - l.j

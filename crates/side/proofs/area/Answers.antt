@@ -10,16 +10,16 @@ use Rattle.side.proofs.area.Goals as goal
 
 pub loop-m-init : goal.loop-m-init
 unfolding area_to
-loop-m-init c = (omega arith, refl, omega arith)
+loop-m-init c = (refl, omega arith)
 
 pub loop-m-preserved : goal.loop-m-preserved
 unfolding area_to
 loop-m-preserved c =
     let i = c.loop-m in
-    (omega arith, rw add-one (ap₂ (λ (a b : ℕ). a + b) i.invariant.1 c.area_at-sum.ensures.0), omega arith)
+    (rw add-one (ap₂ (λ (a b : ℕ). a + b) i.invariant.0 c.area_at-sum.ensures.0), omega arith)
 
 pub returns : goal.returns
 returns c =
     let a = c.args in
     let e : c.loop-m.m ≡ modules a.book.now = omega arith in
-    (c.loop-m.invariant.1 ∙ ap (area_to (area a.book.now) (side_of a.side.now)) e, omega arith)
+    (c.loop-m.invariant.0 ∙ ap (area_to (area a.book.now) (side_of a.side.now)) e, omega arith)

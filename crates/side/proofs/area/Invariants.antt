@@ -1,5 +1,5 @@
 -- `side::area` meets its contract: `sum` is the area of the modules before `m`. Assumes nothing.
-use Prim.Native.Nat.{◌*◌, ◌≤◌, ◌-◌}
+use Prim.Native.Nat.{◌*◌, ◌≤◌}
 use mathlib.Core.Path.{◌≡◌}
 use Rattle.line.specs.Card.{area_to}
 use Rattle.book.specs.Format.{area}
@@ -8,7 +8,4 @@ use Rattle.side.specs.Prices.{most_number}
 use Rattle.side.proofs.area.Given as goal
 
 abbrev pub invariant-loop-m : goal.invariant-loop-m
-invariant-loop-m l = (l.m ≤ l.count) × (l.sum ≡ area_to (area l.book) (side_of l.side) l.m) × (l.sum ≤ most_number * l.m)
-
-abbrev pub decreases-loop-m : goal.decreases-loop-m
-decreases-loop-m l = l.count - l.m
+invariant-loop-m l = (l.sum ≡ area_to (area l.book) (side_of l.side) l.m) × (l.sum ≤ most_number * l.m)

@@ -22,7 +22,7 @@ pub loop-n-init : goal.loop-n-init
 unfolding first_pin
 loop-n-init c = let a = c.args in
     let x = side_of a.side.now in
-    (omega arith, omega (arith, price_start a.book.now x, price_start a.book.now (flipped x a.m)), omega arith, omega arith, refl)
+    (omega (arith, price_start a.book.now x, price_start a.book.now (flipped x a.m)), omega arith, omega arith, refl)
 
 pub overflow_add-first : goal.overflow_add-first
 overflow_add-first c = omega (arith, c.pin_count-first.ensures.0, next_within c.args.book.now c.requires.0.sound c.loop-n.n (omega arith))
@@ -40,11 +40,10 @@ loop-n-preserved c = let a = c.args in
     c.crosses_with-after.ensures ∙ ap₂ (λ (p : Apart) (b : Bool). crosses_with p (not b)) c.apart_from-a.ensures c.inside-on.ensures ∙ moves x a.m e in
     let gains = c.weigh-gained.ensures.0 ∙ ap₂ (λ (p q : Bool). cond (q && not p) (weight s i.n) 0) before after in
     let loses = c.weigh-lost.ensures.0 ∙ ap₂ (λ (p q : Bool). cond (p && not q) (weight s i.n) 0) before after in (
+      omega (arith, i.invariant.0, price_next s x i.n l, price_next s y i.n l, gains, loses, net_turns x y e),
       omega arith,
-      omega (arith, i.invariant.1, price_next s x i.n l, price_next s y i.n l, gains, loses, net_turns x y e),
       omega arith,
-      omega arith,
-      ap₂ (λ (p q : ℕ). p + q) i.invariant.4 c.pin_count-first.ensures.0 ∙ sym (first_pin-suc s i.n),
+      ap₂ (λ (p q : ℕ). p + q) i.invariant.3 c.pin_count-first.ensures.0 ∙ sym (first_pin-suc s i.n),
     )
 
 pub less-requires : goal.less-requires
@@ -59,4 +58,4 @@ returns c = let a = c.args in
     let e : i.n ≡ nets s = omega arith in
     let whole : (z : Side) → price (take i.n (nets_of s)) z ≡ price (nets_of s) z = λ z. ap (λ (k : ℕ). price (take k (nets_of s)) z) e ∙ price_all s z in
     to_z-of_z w64 c.less.result (record { sfits = c.less.type_inv }) ∙ c.less.ensures
-    ∙ differences i.gained i.lost (price (nets_of s) y) (price (nets_of s) x) (omega (arith, i.invariant.1, whole x, whole y))
+    ∙ differences i.gained i.lost (price (nets_of s) y) (price (nets_of s) x) (omega (arith, i.invariant.0, whole x, whole y))

@@ -1,6 +1,6 @@
 -- `side::change_of` meets its contract. The loop's invariant: over the nets before `n`, the price after the move with what is lost is the price before with
 -- what is gained. Assumes nothing.
-use Prim.Native.Nat.{◌+◌, ◌*◌, ◌≤◌, ◌-◌}
+use Prim.Native.Nat.{◌+◌, ◌*◌, ◌≤◌}
 use mathlib.Core.Path.{◌≡◌}
 use lib.ListN.{take}
 use Rattle.line.specs.Card.{price}
@@ -12,11 +12,7 @@ use Rattle.side.specs.Moves.{flipped}
 use Rattle.side.proofs.change_of.Given as goal
 
 abbrev pub invariant-loop-n : goal.invariant-loop-n
-invariant-loop-n l = (l.n ≤ l.count)
-    × (price (take l.n (nets_of l.book)) (flipped (side_of l.side) l.m) + l.lost ≡ price (take l.n (nets_of l.book)) (side_of l.side) + l.gained)
+invariant-loop-n l = (price (take l.n (nets_of l.book)) (flipped (side_of l.side) l.m) + l.lost ≡ price (take l.n (nets_of l.book)) (side_of l.side) + l.gained)
     × (l.gained ≤ most_number * l.n)
     × (l.lost ≤ most_number * l.n)
     × (l.first ≡ first_pin l.book l.n)
-
-abbrev pub decreases-loop-n : goal.decreases-loop-n
-decreases-loop-n l = l.count - l.n

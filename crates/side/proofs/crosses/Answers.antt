@@ -14,7 +14,7 @@ use Rattle.side.proofs.crosses.Goals as goal
 pub loop-j-init : goal.loop-j-init
 loop-j-init c = let a = c.args in
     let x = side_of a.side.now in
-    (omega arith, sym (touches_start a.book.now x a.n), sym (touches_start a.book.now (outside x) a.n))
+    (sym (touches_start a.book.now x a.n), sym (touches_start a.book.now (outside x) a.n))
 
 pub loop-j-preserved : goal.loop-j-preserved
 loop-j-preserved c = let a = c.args in
@@ -22,9 +22,8 @@ loop-j-preserved c = let a = c.args in
     let x = side_of a.side.now in
     let l : i.j < pin_count a.book.now a.n = omega arith in
     let b = c.inside-b.ensures ∙ ap x c.pin_of.ensures.0 in (
-      omega arith,
-      ap₂ (λ (p q : Bool). p || q) i.invariant.1 b ∙ sym (touches_next a.book.now x a.n i.j l),
-      ap₂ (λ (p q : Bool). p || not q) i.invariant.2 b ∙ sym (touches_next a.book.now (outside x) a.n i.j l),
+      ap₂ (λ (p q : Bool). p || q) i.invariant.0 b ∙ sym (touches_next a.book.now x a.n i.j l),
+      ap₂ (λ (p q : Bool). p || not q) i.invariant.1 b ∙ sym (touches_next a.book.now (outside x) a.n i.j l),
     )
 
 pub returns : goal.returns
@@ -35,5 +34,5 @@ returns c = let a = c.args in
     let x = side_of a.side.now in
     let e : i.j ≡ pin_count s a.n = omega arith in
     ap₂ (λ (p q : Bool). p && q)
-    (i.invariant.1 ∙ ap (λ (k : ℕ). touches x (take k (pins_of s a.n))) e ∙ touches_all s x a.n)
-    (i.invariant.2 ∙ ap (λ (k : ℕ). touches (outside x) (take k (pins_of s a.n))) e ∙ touches_all s (outside x) a.n)
+    (i.invariant.0 ∙ ap (λ (k : ℕ). touches x (take k (pins_of s a.n))) e ∙ touches_all s x a.n)
+    (i.invariant.1 ∙ ap (λ (k : ℕ). touches (outside x) (take k (pins_of s a.n))) e ∙ touches_all s (outside x) a.n)

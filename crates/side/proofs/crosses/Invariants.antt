@@ -1,5 +1,4 @@
 -- `side::crosses` meets its contract: `on` and `off` say whether a pin of net n before pin `j` is on the side, and off it. Assumes nothing.
-use Prim.Native.Nat.{◌≤◌, ◌-◌}
 use mathlib.Core.Path.{◌≡◌}
 use lib.ListN.{take}
 use Rattle.line.specs.Card.{outside, touches}
@@ -8,7 +7,4 @@ use Rattle.side.specs.Sides.{side_of}
 use Rattle.side.proofs.crosses.Given as goal
 
 abbrev pub invariant-loop-j : goal.invariant-loop-j
-invariant-loop-j l = (l.j ≤ l.many) × (l.on ≡ touches (side_of l.side) (take l.j (pins_of l.book l.n))) × (l.off ≡ touches (outside (side_of l.side)) (take l.j (pins_of l.book l.n)))
-
-abbrev pub decreases-loop-j : goal.decreases-loop-j
-decreases-loop-j l = l.many - l.j
+invariant-loop-j l = (l.on ≡ touches (side_of l.side) (take l.j (pins_of l.book l.n))) × (l.off ≡ touches (outside (side_of l.side)) (take l.j (pins_of l.book l.n)))

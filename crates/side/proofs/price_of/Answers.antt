@@ -15,7 +15,7 @@ pub loop-n-init : goal.loop-n-init
 unfolding first_pin
 loop-n-init c =
     let a = c.args in
-    (omega arith, sym (price_start a.book.now (side_of a.side.now)), omega arith, refl)
+    (sym (price_start a.book.now (side_of a.side.now)), omega arith, refl)
 
 pub overflow_add-first : goal.overflow_add-first
 overflow_add-first c =
@@ -27,10 +27,9 @@ loop-n-preserved c =
     let i = c.loop-n in
     let a = c.args in
     let l : i.n < nets a.book.now = omega arith in (
+      ap₂ (λ (p q : ℕ). p + q) i.invariant.0 c.cost-sum.ensures.0 ∙ sym (price_next a.book.now (side_of a.side.now) i.n l),
       omega arith,
-      ap₂ (λ (p q : ℕ). p + q) i.invariant.1 c.cost-sum.ensures.0 ∙ sym (price_next a.book.now (side_of a.side.now) i.n l),
-      omega arith,
-      ap₂ (λ (p q : ℕ). p + q) i.invariant.3 c.pin_count-first.ensures.0 ∙ sym (first_pin-suc a.book.now i.n),
+      ap₂ (λ (p q : ℕ). p + q) i.invariant.2 c.pin_count-first.ensures.0 ∙ sym (first_pin-suc a.book.now i.n),
     )
 
 pub returns : goal.returns
@@ -39,4 +38,4 @@ returns c =
     let a = c.args in
     let x = side_of a.side.now in
     let e : i.n ≡ nets a.book.now = omega arith in
-    (i.invariant.1 ∙ ap (λ (k : ℕ). price (take k (nets_of a.book.now)) x) e ∙ price_all a.book.now x, omega arith)
+    (i.invariant.0 ∙ ap (λ (k : ℕ). price (take k (nets_of a.book.now)) x) e ∙ price_all a.book.now x, omega arith)

@@ -1,5 +1,5 @@
 -- `side::price_of` meets its contract: `sum` is the price of the nets before `n`, and `first` the place of the first pin of net `n`. Assumes nothing.
-use Prim.Native.Nat.{◌*◌, ◌≤◌, ◌-◌}
+use Prim.Native.Nat.{◌*◌, ◌≤◌}
 use mathlib.Core.Path.{◌≡◌}
 use lib.ListN.{take}
 use Rattle.line.specs.Card.{price}
@@ -11,7 +11,4 @@ use Rattle.side.proofs.price_of.Given as goal
 
 abbrev pub invariant-loop-n : goal.invariant-loop-n
 invariant-loop-n l =
-    (l.n ≤ l.count) × (l.sum ≡ price (take l.n (nets_of l.book)) (side_of l.side)) × (l.sum ≤ most_number * l.n) × (l.first ≡ first_pin l.book l.n)
-
-abbrev pub decreases-loop-n : goal.decreases-loop-n
-decreases-loop-n l = l.count - l.n
+    (l.sum ≡ price (take l.n (nets_of l.book)) (side_of l.side)) × (l.sum ≤ most_number * l.n) × (l.first ≡ first_pin l.book l.n)
