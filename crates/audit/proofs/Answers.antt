@@ -1,5 +1,7 @@
 -- Laws of the checker: its answer is one; it accepts exactly a certified flow, side and price; it refuses exactly when document 01 says, with its place.
 -- `Bytes l` says that the numbers of the list l are bytes. Assumes nothing.
+use Rattle.std.specs.Prelude.{Option, Some, None, Result, Ok, Err, ⊤}
+use Rattle.book.specs.declared.Book.{Book}
 use Prim.Native.Nat.{ℕ, ◌+◌, ◌≤◌, ◌<◌}
 use mathlib.Core.Path.{◌≡◌, refl, sym, ap, subst, ◌∙◌}
 use mathlib.Core.Logic.{◌⊎◌, inl, inr}
@@ -13,10 +15,6 @@ use lib.ListN.{length}
 use Rattle.line.specs.Card.{Cheapest, price}
 use Rattle.line.specs.Flow as page
 use Rattle.line.specs.Flow.{EachNet, Fair}
-use Rattle.book.specs.declared.Found.{Found}
-use Rattle.book.specs.declared.Found.TheVariants.{At, Nothing}
-use Rattle.book.specs.declared.Reading.{Reading}
-use Rattle.book.specs.declared.Reading.TheVariants as reading
 use Rattle.book.specs.declared.Refusal.{Refusal}
 use Rattle.book.specs.declared.Refusal.TheVariants.{Buffer, Side, NetRule, ModuleRule, Values}
 use Rattle.book.specs.Format.{modules, pins}
@@ -26,15 +24,12 @@ use Rattle.book.specs.Sound.{Sound}
 use Rattle.book.specs.Cards.{nets_of, card_of}
 use Rattle.book.proofs.Sound.{sound}
 use Rattle.book.proofs.CardLaws.{card_valid}
-use Rattle.side.specs.declared.Priced.TheVariants as prices
 use Rattle.side.specs.Sides.{side_of, bytes_for, Bytes}
 use Rattle.side.specs.Given as side
 use Rattle.side.specs.Given.{Fits, Reads, is_short, is_good, given_sound, given}
 use Rattle.side.specs.Prices.{priced}
 use Rattle.side.proofs.Refusals as refusals
 use Rattle.side.proofs.Prices.{price_tells, price_answers}
-use Rattle.audit.specs.declared.Checked.{Checked}
-use Rattle.audit.specs.declared.Checked.TheVariants.{Accepted, Refused}
 use Rattle.audit.specs.Rules.{needed, check11, check12, value_sent, value_taken, balance_of, ruled_of}
 use Rattle.audit.specs.Checker.{agree, checked_good, is_short_flow, checked_sound, checked_of}
 use Rattle.audit.specs.Certificate.{Certified, Greatest}
@@ -44,7 +39,7 @@ use Rattle.audit.proofs.Unread.{needed_needed, one_ruled}
 use Rattle.audit.proofs.Fairness.{nets_keep, keep_nets, net_refused, refused_net, module_refused, refused_module, passes_fair, fair_passes, value_from, value_to}
 
 -- any two answers that `check`'s contract allows are one
-pub check_one : (s l : List ℕ) (xs : List ℤ) (claim : ℕ) (r q : Checked) → r ≡ checked_of s l xs claim → q ≡ checked_of s l xs claim → r ≡ q
+pub check_one : (s l : List ℕ) (xs : List ℤ) (claim : ℕ) (r q : Result ⊤ Refusal) → r ≡ checked_of s l xs claim → q ≡ checked_of s l xs claim → r ≡ q
 check_one s l xs claim r q h k = h ∙ sym k
 
 -- ---- checks 8 and 9 as tests, and what they test
@@ -58,7 +53,7 @@ module _ (s l : List ℕ) (r : Reads s) where
   unfolding priced given given_sound
   misfit_of h a g f =
       let good = price_answers s l h r f in
-      let bad : priced s l ≡ prices.Refused Side = rw (r.1, a, g) in
+      let bad : priced s l ≡ Err Side = rw (r.1, a, g) in
       let z : ◌≡◌ {A = ℕ} 0 1 = cc in
       absurd (omega arith)
 
@@ -91,29 +86,29 @@ module _ (s : List ℕ) (h : Sound s) (l : List ℕ) (claim : ℕ) (zs : List �
   certified_equal q =
       rw (eq-eqb (value_sent s zs) (value_taken s zs + cost) (value_to s h zs cost (q.value_is ∙ ap pos (sym q.price_is))), eq-eqb cost claim q.price_is)
 
-  judge_net : (n : ℕ) → check11 s zs ≡ At n → checked_good s l zs claim ≡ Refused (NetRule n)
+  judge_net : (n : ℕ) → check11 s zs ≡ Some n → checked_good s l zs claim ≡ Err (NetRule n)
   unfolding checked_good ruled_of
   judge_net n e = rw e
 
-  module _ (e : check11 s zs ≡ Nothing) where
-    judge_module : (m : ℕ) → check12 s zs ≡ At m → checked_good s l zs claim ≡ Refused (ModuleRule m)
+  module _ (e : check11 s zs ≡ None) where
+    judge_module : (m : ℕ) → check12 s zs ≡ Some m → checked_good s l zs claim ≡ Err (ModuleRule m)
     unfolding checked_good ruled_of balance_of
     judge_module m g = rw (e, g)
 
-    judge_values : check12 s zs ≡ Nothing → equal ≡ false → checked_good s l zs claim ≡ Refused Values
+    judge_values : check12 s zs ≡ None → equal ≡ false → checked_good s l zs claim ≡ Err Values
     unfolding checked_good ruled_of balance_of
     judge_values g t = rw (e, g, t)
 
-    judge_accepted : check12 s zs ≡ Nothing → equal ≡ true → checked_good s l zs claim ≡ Accepted
+    judge_accepted : check12 s zs ≡ None → equal ≡ true → checked_good s l zs claim ≡ Ok tt
     unfolding checked_good ruled_of balance_of
     judge_accepted g t = rw (e, g, t)
 
 -- ---- exactly when
 
 module _ (s l : List ℕ) (xs : List ℤ) (claim : ℕ) (h : Bytes l) where
-  abbrev When : Checked → Type 0
-  When Accepted = Accepts s l xs claim
-  When (Refused why) = Refuses s l xs claim why
+  abbrev When : Result ⊤ Refusal → Type 0
+  When (Ok _) = Accepts s l xs claim
+  When (Err why) = Refuses s l xs claim why
 
   -- past checks 8 and 9 the needed part of the flow decides
   past : Presented s l xs → checked_of s l xs claim ≡ checked_good s l (needed s xs) claim
@@ -123,16 +118,16 @@ module _ (s l : List ℕ) (xs : List ℤ) (claim : ℕ) (h : Bytes l) where
       rw (r.1, le-ltb (length xs) (pins s) p.enough, le-ltb (length l) (bytes_for (modules s)) p.fits.enough, fits_good s l r h p.fits)
       (rw (one_ruled s (sound s r.0 r.1) xs (needed s xs) (sym (needed_needed s xs))))
 
-  is_unread : {why : Refusal} → read_of s ≡ reading.Refused why → checked_of s l xs claim ≡ Refused why
+  is_unread : {why : Refusal} → read_of s ≡ Err why → checked_of s l xs claim ≡ Err why
   unfolding checked_of
   is_unread e = rw e
 
   module _ (r : Reads s) where
-    is-short : (is_short_flow s xs || is_short s l) ≡ true → checked_of s l xs claim ≡ Refused Buffer
+    is-short : (is_short_flow s xs || is_short s l) ≡ true → checked_of s l xs claim ≡ Err Buffer
     unfolding checked_of checked_sound
     is-short e = rw (r.1, e)
 
-    is_misfit : is_short_flow s xs ≡ false → is_short s l ≡ false → is_good s l ≡ false → checked_of s l xs claim ≡ Refused Side
+    is_misfit : is_short_flow s xs ≡ false → is_short s l ≡ false → is_good s l ≡ false → checked_of s l xs claim ≡ Err Side
     unfolding checked_of checked_sound
     is_misfit a b g = rw (r.1, a, b, g)
 
@@ -141,15 +136,15 @@ module _ (s l : List ℕ) (xs : List ℤ) (claim : ℕ) (h : Bytes l) where
     whole : Sound s
     whole = sound s p.reads.0 p.reads.1
 
-    judged_when : (f g : Found) (t : Bool) → check11 s (needed s xs) ≡ f → check12 s (needed s xs) ≡ g → equal s whole l claim (needed s xs) ≡ t → When (checked_of s l xs claim)
-    judged_when (At n) g t e d q =
+    judged_when : (f g : Option ℕ) (t : Bool) → check11 s (needed s xs) ≡ f → check12 s (needed s xs) ≡ g → equal s whole l claim (needed s xs) ≡ t → When (checked_of s l xs claim)
+    judged_when (Some n) g t e d q =
         subst When (sym (past p ∙ judge_net s whole l claim (needed s xs) n e)) (net p (net_refused s (needed s xs) n e))
-    judged_when Nothing (At m) t e d q =
+    judged_when None (Some m) t e d q =
         subst When (sym (past p ∙ judge_module s whole l claim (needed s xs) e m d)) (free p (nets_keep s (needed s xs) e) (module_refused s whole (needed s xs) m d))
-    judged_when Nothing Nothing true e d q =
+    judged_when None None true e d q =
         let fair = passes_fair s whole (needed s xs) e d in
         subst When (sym (past p ∙ judge_accepted s whole l claim (needed s xs) e d q)) (record { presented = p; certified = equal_certified s whole l claim (needed s xs) fair p.fits q })
-    judged_when Nothing Nothing false e d q =
+    judged_when None None false e d q =
         let fair = passes_fair s whole (needed s xs) e d in
         subst When (sym (past p ∙ judge_values s whole l claim (needed s xs) e d q)) (unequal p fair (λ c. true≢false (sym (certified_equal s whole l claim (needed s xs) c) ∙ q)))
 
@@ -161,19 +156,19 @@ module _ (s l : List ℕ) (xs : List ℤ) (claim : ℕ) (h : Bytes l) where
   tested_when r false false false u v w = subst When (sym (is_misfit r u v w)) (misfit r (ltb-false _ _ u) (ltb-false _ _ v) (misfit_of s l r h v w))
   tested_when r false false true u v w = judged_when (record { reads = r; fits = fits_of s l r v w; enough = ltb-false _ _ u }) (check11 s (needed s xs)) (check12 s (needed s xs)) _ refl refl refl
 
-  read_when : (r : Reading) → read_of s ≡ r → When (checked_of s l xs claim)
-  read_when (reading.Good b) e = tested_when (b, e) (is_short_flow s xs) (is_short s l) (is_good s l) refl refl refl
-  read_when (reading.Refused why) e = subst When (sym (is_unread e)) (reader e)
+  read_when : (r : Result Book Refusal) → read_of s ≡ r → When (checked_of s l xs claim)
+  read_when (Ok b) e = tested_when (b, e) (is_short_flow s xs) (is_short s l) (is_good s l) refl refl refl
+  read_when (Err why) e = subst When (sym (is_unread e)) (reader e)
 
-  pub accepted_tells : checked_of s l xs claim ≡ Accepted → Accepts s l xs claim
+  pub accepted_tells : checked_of s l xs claim ≡ Ok tt → Accepts s l xs claim
   accepted_tells e = subst When e (read_when (read_of s) refl)
 
-  pub refused_tells : {why : Refusal} → checked_of s l xs claim ≡ Refused why → Refuses s l xs claim why
+  pub refused_tells : {why : Refusal} → checked_of s l xs claim ≡ Err why → Refuses s l xs claim why
   refused_tells e = subst When e (read_when (read_of s) refl)
 
   -- ---- and the other way round
 
-  pub accepts_checked : Accepts s l xs claim → checked_of s l xs claim ≡ Accepted
+  pub accepts_checked : Accepts s l xs claim → checked_of s l xs claim ≡ Ok tt
   accepts_checked a =
       let p = a.presented in
       let f = fair_passes s (whole p) (needed s xs) a.certified.fair in
@@ -193,7 +188,7 @@ module _ (s l : List ℕ) (xs : List ℤ) (claim : ℕ) (h : Bytes l) where
   is_unequal p f n true q = absurd (n (equal_certified s (whole p) l claim (needed s xs) f p.fits q))
   is_unequal p f n false q = q
 
-  pub refuses_checked : {why : Refusal} → Refuses s l xs claim why → checked_of s l xs claim ≡ Refused why
+  pub refuses_checked : {why : Refusal} → Refuses s l xs claim why → checked_of s l xs claim ≡ Err why
   unfolding is_short_flow is_short
   refuses_checked (reader e) = is_unread e
   refuses_checked (short r u) = is-short r (either_short u)
@@ -209,7 +204,7 @@ module _ (s l : List ℕ) (xs : List ℤ) (claim : ℕ) (h : Bytes l) where
 
   -- ---- what an accepted flow, side and price tell, whoever made them
 
-  pub accepted_cheapest : checked_of s l xs claim ≡ Accepted → Cheapest (card_of s) (side_of l) × (price (nets_of s) (side_of l) ≡ claim) × Greatest (card_of s) (needed s xs)
+  pub accepted_cheapest : checked_of s l xs claim ≡ Ok tt → Cheapest (card_of s) (side_of l) × (price (nets_of s) (side_of l) ≡ claim) × Greatest (card_of s) (needed s xs)
   accepted_cheapest e =
       let a = accepted_tells e in
       let v = card_valid s (whole a.presented) in
@@ -217,15 +212,15 @@ module _ (s l : List ℕ) (xs : List ℤ) (claim : ℕ) (h : Bytes l) where
       (certified_cheapest (card_of s) v (needed s xs) (side_of l) claim q, q.price_is, certified_greatest (card_of s) v (needed s xs) (side_of l) claim q)
 
 -- given one accepted answer, every cheapest side that fits with every greatest flow is accepted too, with that price
-pub accepted_all : (s l k : List ℕ) (xs zs : List ℤ) (claim : ℕ) → Bytes l → Bytes k → checked_of s l xs claim ≡ Accepted →
-    Presented s k zs → Greatest (card_of s) (needed s zs) → Cheapest (card_of s) (side_of k) → checked_of s k zs claim ≡ Accepted
+pub accepted_all : (s l k : List ℕ) (xs zs : List ℤ) (claim : ℕ) → Bytes l → Bytes k → checked_of s l xs claim ≡ Ok tt →
+    Presented s k zs → Greatest (card_of s) (needed s zs) → Cheapest (card_of s) (side_of k) → checked_of s k zs claim ≡ Ok tt
 accepted_all s l k xs zs claim h i e p g c =
     let a = accepted_tells s l xs claim h e in
     let v = card_valid s (sound s p.reads.0 p.reads.1) in
     accepts_checked s k zs claim i (record { presented = p; certified = certified_all (card_of s) v (needed s xs) (side_of l) claim a.certified (needed s zs) g (side_of k) c })
 
 -- and with no other
-pub accepted_once : (s l k : List ℕ) (xs zs : List ℤ) (claim other : ℕ) → Bytes l → Bytes k → checked_of s l xs claim ≡ Accepted → checked_of s k zs other ≡ Accepted → claim ≡ other
+pub accepted_once : (s l k : List ℕ) (xs zs : List ℤ) (claim other : ℕ) → Bytes l → Bytes k → checked_of s l xs claim ≡ Ok tt → checked_of s k zs other ≡ Ok tt → claim ≡ other
 accepted_once s l k xs zs claim other h i e d =
     let a = accepted_tells s l xs claim h e in
     let b = accepted_tells s k zs other i d in
@@ -236,13 +231,13 @@ accepted_once s l k xs zs claim other h i e d =
 
 module _ (s l : List ℕ) (xs : List ℤ) (claim : ℕ) where
   -- the reader's are below 10
-  low : {why : Refusal} → read_of s ≡ reading.Refused why → number_of why ≤ 9
+  low : {why : Refusal} → read_of s ≡ Err why → number_of why ≤ 9
   low e = refusals.to_nine s l (side.reader e)
 
-  unread : {A : Type 0} {why : Refusal} → read_of s ≡ reading.Refused why → Reads s → A
+  unread : {A : Type 0} {why : Refusal} → read_of s ≡ Err why → Reads s → A
   unread e r = let k = r.1 in let z : ◌≡◌ {A = ℕ} 0 1 = cc in absurd (omega arith)
 
-  pub one_to_six : {why : Refusal} → Refuses s l xs claim why → number_of why ≤ 6 → read_of s ≡ reading.Refused why
+  pub one_to_six : {why : Refusal} → Refuses s l xs claim why → number_of why ≤ 6 → read_of s ≡ Err why
   one_to_six (reader e) h = e
   one_to_six (short r u) h = absurd (omega arith)
   one_to_six (misfit r u v n) h = absurd (omega arith)

@@ -1,5 +1,6 @@
 -- Checks 11 and 12 against the page's rules: a flow passes both exactly where it is fair, and where one refuses, its place is the first net or module that breaks its rule.
 -- The value is what meter modules send less what they take. Assumes nothing.
+use Rattle.std.specs.Prelude.{Some, None}
 use Prim.Native.Nat.{ℕ, ◌+◌, ◌≤◌, ◌<◌}
 use mathlib.Core.Path.{◌≡◌, refl, sym, ap, subst, ◌∙◌}
 use mathlib.Core.Bool.{Bool, true, false, not, ◌&&◌, true≢false}
@@ -14,7 +15,6 @@ use Rattle.line.specs.Flow.{sent, taken, total, flow_at, EachNet, NetRule, only,
 use Rattle.line.proofs.Bools.{or_none}
 use Rattle.line.proofs.Index.{net_at, each_at, each_from}
 use Rattle.line.proofs.Sums.{is_zero, is_pos, flow_diff, total_diff, sum_sent}
-use Rattle.book.specs.declared.Found.TheVariants.{At, Nothing}
 use Rattle.book.specs.Format.{modules, nets, mark, weight, pin_count, first_pin}
 use Rattle.book.specs.Sound.{Sound}
 use Rattle.book.specs.Cards.{nets_of, card_of}
@@ -57,7 +57,7 @@ module _ (s : List ℕ) (xs : List ℤ) where
       rw (eq-eqb (net_sent s xs n) (net_taken s xs n) level, le-ltb (weight s n) (net_sent s xs n) low)
 
   -- no net is bad exactly where each net keeps the rule
-  pub nets_keep : check11 s xs ≡ Nothing → EachNet NetRule (nets_of s) xs
+  pub nets_keep : check11 s xs ≡ None → EachNet NetRule (nets_of s) xs
   unfolding check11
   nets_keep e =
       each_from NetRule (nets_of s) xs
@@ -66,12 +66,12 @@ module _ (s : List ℕ) (xs : List ℤ) where
   keeps_at : EachNet NetRule (nets_of s) xs → (n : ℕ) → n < nets s → NetKeeps s xs n
   keeps_at h n l = subst (λ (e : Net). NetRule e (own n)) (net-at s n l) (subst (NetRule (net_at (nets_of s) n)) (numbers_are s xs n l) (each_at NetRule (nets_of s) xs h n (omega (arith, nets-length s))))
 
-  pub keep_nets : EachNet NetRule (nets_of s) xs → check11 s xs ≡ Nothing
+  pub keep_nets : EachNet NetRule (nets_of s) xs → check11 s xs ≡ None
   unfolding check11
   keep_nets h = none_lowest (bad_net_flow s xs) (nets s) (λ n l. rw (keeps_net n (keeps_at h n l)) tt)
 
   -- a bad net is the first that breaks the rule, and the other way round
-  pub net_refused : (n : ℕ) → check11 s xs ≡ At n → BrokenNet s xs n
+  pub net_refused : (n : ℕ) → check11 s xs ≡ Some n → BrokenNet s xs n
   unfolding check11
   net_refused n e =
       let r = lowest_at (bad_net_flow s xs) (nets s) n e in record {
@@ -80,7 +80,7 @@ module _ (s : List ℕ) (xs : List ℤ) where
         before = λ k l. net_keeps k (r.2 k l);
       }
 
-  pub refused_net : (n : ℕ) → BrokenNet s xs n → check11 s xs ≡ At n
+  pub refused_net : (n : ℕ) → BrokenNet s xs n → check11 s xs ≡ Some n
   unfolding check11
   refused_net n b =
       lowest_found (bad_net_flow s xs) n (nets s) (none_lowest (bad_net_flow s xs) n (λ k l. rw (keeps_net k (b.before k l)) tt))
@@ -109,22 +109,22 @@ module _ (s : List ℕ) (h : Sound s) (xs : List ℤ) where
       go false f = refl
 
   -- no module is bad exactly where each free module keeps the rule
-  pub modules_keep : check12 s xs ≡ Nothing → (m : ℕ) → m < modules s → ModuleKeeps s xs m
+  pub modules_keep : check12 s xs ≡ None → (m : ℕ) → m < modules s → ModuleKeeps s xs m
   unfolding check12
   modules_keep e m l = module_keeps m (lowest_clear (bad_module_flow s xs) (modules s) m e l)
 
-  pub keep_modules : ((m : ℕ) → m < modules s → ModuleKeeps s xs m) → check12 s xs ≡ Nothing
+  pub keep_modules : ((m : ℕ) → m < modules s → ModuleKeeps s xs m) → check12 s xs ≡ None
   unfolding check12
   keep_modules r = none_lowest (bad_module_flow s xs) (modules s) (λ m l. rw (keeps_module m (r m l)) tt)
 
   -- a bad module is the lowest that breaks the rule, and the other way round
-  pub module_refused : (m : ℕ) → check12 s xs ≡ At m → BrokenModule s xs m
+  pub module_refused : (m : ℕ) → check12 s xs ≡ Some m → BrokenModule s xs m
   unfolding check12
   module_refused m e =
       let r = lowest_at (bad_module_flow s xs) (modules s) m e in
       record { under = r.0; breaks = λ k. true≢false (sym r.1 ∙ keeps_module m k); before = λ k l. module_keeps k (r.2 k l) }
 
-  pub refused_module : (m : ℕ) → BrokenModule s xs m → check12 s xs ≡ At m
+  pub refused_module : (m : ℕ) → BrokenModule s xs m → check12 s xs ≡ Some m
   unfolding check12
   refused_module m b =
       lowest_found (bad_module_flow s xs) m (modules s) (none_lowest (bad_module_flow s xs) m (λ k l. rw (keeps_module k (b.before k l)) tt))
@@ -132,10 +132,10 @@ module _ (s : List ℕ) (h : Sound s) (xs : List ℤ) where
 
   -- ---- a flow passes both checks exactly where it is fair
 
-  pub passes_fair : check11 s xs ≡ Nothing → check12 s xs ≡ Nothing → Fair (card_of s) xs
+  pub passes_fair : check11 s xs ≡ None → check12 s xs ≡ None → Fair (card_of s) xs
   passes_fair e f = record { nets = nets_keep s xs e; modules = modules_keep f }
 
-  pub fair_passes : Fair (card_of s) xs → (check11 s xs ≡ Nothing) × (check12 s xs ≡ Nothing)
+  pub fair_passes : Fair (card_of s) xs → (check11 s xs ≡ None) × (check12 s xs ≡ None)
   fair_passes f = (keep_nets s xs f.nets, keep_modules f.modules)
 
   -- ---- the value: what is sent less what is taken

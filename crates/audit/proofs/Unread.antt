@@ -1,5 +1,9 @@
 -- What lies beyond the needed part of a flow or a side is not read: flows that agree on it pass the same checks with the same sums, and the call has one answer.
 -- Assumes nothing.
+use Rattle.audit.specs.declared.Value.{Value}
+use Rattle.std.specs.Prelude.{Result, Ok, Err, ⊤}
+use Rattle.book.specs.declared.Book.{Book}
+use Rattle.book.specs.declared.Refusal.{Refusal}
 use Prim.Native.Nat.{ℕ, ◌+◌, ◌<◌}
 use mathlib.Core.Path.{◌≡◌, refl, sym, ap, ap₂, ◌∙◌}
 use mathlib.Core.Bool.{Bool, true, false, not, cond, ◌&&◌, ◌||◌}
@@ -18,20 +22,13 @@ use Rattle.book.specs.Sound.{Sound}
 use Rattle.book.specs.Cards.{card_of}
 use Rattle.book.proofs.Firsts.{lowest_same}
 use Rattle.book.proofs.CardLaws.{pin_before}
-use Rattle.book.specs.declared.Reading.{Reading}
-use Rattle.book.specs.declared.Reading.TheVariants as reading
 use Rattle.book.specs.declared.Refusal.TheVariants.{Buffer}
 use Rattle.book.specs.Checks.{read_of}
 use Rattle.book.proofs.Sound.{sound}
-use Rattle.side.specs.declared.Priced.{Priced}
-use Rattle.side.specs.declared.Priced.TheVariants as prices
 use Rattle.side.specs.Sides.{bytes_for}
 use Rattle.side.specs.Given.{Reads, is_short, is_good, given_sound, given}
 use Rattle.side.specs.Prices.{priced}
 use Rattle.side.proofs.Prices.{price_unread}
-use Rattle.audit.specs.declared.Ruled.{Ruled}
-use Rattle.audit.specs.declared.Checked.{Checked}
-use Rattle.audit.specs.declared.Checked.TheVariants.{Refused}
 use Rattle.audit.specs.Checker.{judged, checked_good, is_short_flow, refuse_if, checked_sound, after_read, checked_of}
 use Rattle.audit.specs.Rules.{sum_to, needed, bad_net_flow, check11, bad_module_flow, check12, balance_of, ruled_of}
 use Rattle.audit.proofs.Totals.{sum_same}
@@ -88,9 +85,9 @@ unfolding is_short_flow
 same_short s xs ys d = short_take (pins s) xs ∙ ap (λ (zs : List ℤ). ltb (length zs) (pins s)) d ∙ sym (short_take (pins s) ys)
 
 -- what the price call answers of the side, or the rest
-abbrev after_price : Priced → Ruled → ℕ → Checked
-after_price (prices.Price p) r claim = judged r p claim
-after_price (prices.Refused why) r claim = Refused why
+abbrev after_price : Result ℕ Refusal → Result Value Refusal → ℕ → Result ⊤ Refusal
+after_price (Ok p) r claim = judged r p claim
+after_price (Err why) r claim = Err why
 
 module _ (s l : List ℕ) (r : Reads s) (xs : List ℤ) (claim : ℕ) where
   by_price : checked_sound s l xs claim ≡ refuse_if (is_short_flow s xs) Buffer (after_price (priced s l) (ruled_of s xs) claim)
@@ -110,9 +107,9 @@ pub check_unread : (s l k : List ℕ) (xs ys : List ℤ) (claim : ℕ) → take 
 unfolding checked_of
 check_unread s l k xs ys claim e d = go (read_of s) refl
   where
-    go : (r : Reading) → read_of s ≡ r → after_read (read_of s) (checked_sound s l xs claim) ≡ after_read (read_of s) (checked_sound s k ys claim)
-    go (reading.Good b) h =
+    go : (r : Result Book Refusal) → read_of s ≡ r → after_read (read_of s) (checked_sound s l xs claim) ≡ after_read (read_of s) (checked_sound s k ys claim)
+    go (Ok b) h =
         let same : refuse_if (is_short_flow s xs) Buffer (after_price (priced s l) (ruled_of s xs) claim) ≡ refuse_if (is_short_flow s ys) Buffer (after_price (priced s k) (ruled_of s ys) claim) =
         rw (same_short s xs ys d, price_unread s l k e, one_ruled s (sound s b h) xs ys d) in
         ap (after_read (read_of s)) (by_price s l (b, h) xs claim ∙ same ∙ sym (by_price s k (b, h) ys claim))
-    go (reading.Refused why) h = rw h
+    go (Err why) h = rw h

@@ -1,18 +1,15 @@
 -- The rules of a flow on a book's own numbers, checks 11 and 12, and its value. This page holds definitions only.
 -- A flow is one number a pin, in pin order. What is sent and what is taken are summed apart, so that no sum is below 0; no number past the last pin is asked for.
-use Rattle.std.specs.Prelude.{ℕ, zero, suc, ◌+◌, ◌≤◌, Bool, not, cond, ◌&&◌, ◌||◌, List, ltb, eqb, ℤ, pos, length, take, get_or}
+use Rattle.audit.specs.declared.Value.{Value}
+use Rattle.std.specs.Prelude.{ℕ, zero, suc, ◌+◌, ◌≤◌, Bool, not, cond, ◌&&◌, ◌||◌, List, ltb, eqb, ℤ, pos, length, take, get_or, Option, Some, None, Result, Ok, Err}
 use Rattle.line.specs.Card.{Side}
 use Rattle.line.specs.Flow.{sent, taken, only, meters}
-use Rattle.book.specs.declared.Found.{Found}
-use Rattle.book.specs.declared.Found.TheVariants.{At, Nothing}
 use Rattle.book.specs.declared.Refusal.{Refusal}
 use Rattle.book.specs.declared.Refusal.TheVariants.{NetRule, ModuleRule}
 use Rattle.book.specs.First.{lowest}
 use Rattle.book.specs.Format.{modules, nets, pins, mark, weight, pin_count, pin, first_pin}
 use Rattle.book.specs.Sound.{Sound}
 use Rattle.book.specs.Cards.{card_of}
-use Rattle.audit.specs.declared.Ruled.{Ruled}
-use Rattle.audit.specs.declared.Ruled.TheVariants.{Refused, Fair}
 
 -- f 0, f 1, .., f (n - 1) added up
 unfoldable pub sum_to : (ℕ → ℕ) → ℕ → ℕ
@@ -57,7 +54,7 @@ net_taken s xs n = net_taken_to s xs n (pin_count s n)
 unfoldable pub bad_net_flow : List ℕ → List ℤ → ℕ → Bool
 bad_net_flow s xs n = not (eqb (net_sent s xs n) (net_taken s xs n)) || ltb (weight s n) (net_sent s xs n)
 
-unfoldable pub check11 : List ℕ → List ℤ → Found
+unfoldable pub check11 : List ℕ → List ℤ → Option ℕ
 check11 s xs = lowest (bad_net_flow s xs) (nets s)
 
 -- what the pins of the modules of x among the first k pins send, and what they take
@@ -78,7 +75,7 @@ module_taken s xs m = taken_to s xs (only m) (pins s)
 unfoldable pub bad_module_flow : List ℕ → List ℤ → ℕ → Bool
 bad_module_flow s xs m = eqb (mark s m) 0 && not (eqb (module_sent s xs m) (module_taken s xs m))
 
-unfoldable pub check12 : List ℕ → List ℤ → Found
+unfoldable pub check12 : List ℕ → List ℤ → Option ℕ
 check12 s xs = lowest (bad_module_flow s xs) (modules s)
 
 -- what the pins of meter modules send, and what they take: the value is the one less the other
@@ -89,14 +86,14 @@ abbrev pub value_taken : List ℕ → List ℤ → ℕ
 value_taken s xs = taken_to s xs (meters (card_of s)) (pins s)
 
 -- what a check that found a fault refuses, and failing that the rest
-abbrev pub unless : Found → (ℕ → Refusal) → Ruled → Ruled
-unless (At place) why rest = Refused (why place)
-unless Nothing why rest = rest
+abbrev pub unless : Option ℕ → (ℕ → Refusal) → Result Value Refusal → Result Value Refusal
+unless (Some place) why rest = Err (why place)
+unless None why rest = rest
 
 -- check 12, and the value
-unfoldable pub balance_of : List ℕ → List ℤ → Ruled
-balance_of s xs = unless (check12 s xs) ModuleRule (Fair (value_sent s xs) (value_taken s xs))
+unfoldable pub balance_of : List ℕ → List ℤ → Result Value Refusal
+balance_of s xs = unless (check12 s xs) ModuleRule (Ok (record { sent = value_sent s xs; taken = value_taken s xs }))
 
 -- checks 11 and 12, and the value
-unfoldable pub ruled_of : List ℕ → List ℤ → Ruled
+unfoldable pub ruled_of : List ℕ → List ℤ → Result Value Refusal
 ruled_of s xs = unless (check11 s xs) NetRule (balance_of s xs)

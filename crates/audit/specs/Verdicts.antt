@@ -1,9 +1,8 @@
 -- When the checker accepts, and when it refuses and with what, in the page's words. This page holds definitions only.
-use Rattle.std.specs.Prelude.{ℕ, ◌≤◌, ◌<◌, ◌≡◌, ◌⊎◌, List, ℤ, pos, length, take, drop}
+use Rattle.std.specs.Prelude.{ℕ, ◌≤◌, ◌<◌, ◌≡◌, ◌⊎◌, List, ℤ, pos, length, take, drop, Err}
 use Rattle.line.specs.Card.{all_pins}
 use Rattle.line.specs.Flow as page
 use Rattle.line.specs.Flow.{flow_at, EachNet, only, Fair}
-use Rattle.book.specs.declared.Reading.TheVariants as reading
 use Rattle.book.specs.declared.Refusal.{Refusal}
 use Rattle.book.specs.declared.Refusal.TheVariants.{Buffer, Side, NetRule, ModuleRule, Values}
 use Rattle.book.specs.Format.{modules, nets, pins, mark, pin_count, first_pin}
@@ -46,7 +45,7 @@ pub record Accepts (s l : List ℕ) (xs : List ℤ) (claim : ℕ) : Type 0 where
 
 -- the table of document 01, a case a number
 pub data Refuses (s l : List ℕ) (xs : List ℤ) (claim : ℕ) : Refusal → Type 0 where
-  reader : {why : Refusal} → read_of s ≡ reading.Refused why → Refuses s l xs claim why
+  reader : {why : Refusal} → read_of s ≡ Err why → Refuses s l xs claim why
   short : Reads s → (length xs < pins s) ⊎ (length l < bytes_for (modules s)) → Refuses s l xs claim Buffer
   misfit : Reads s → pins s ≤ length xs → bytes_for (modules s) ≤ length l → (Fits s l → ⊥) → Refuses s l xs claim Side
   net : {n : ℕ} → Presented s l xs → BrokenNet s (needed s xs) n → Refuses s l xs claim (NetRule n)

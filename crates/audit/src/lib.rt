@@ -13,18 +13,13 @@ ghost use Rattle.audit.specs.Checker.{agree, checked_good, checked_sound, checke
 ghost use Rattle.audit.specs.Rules.{LentFlow, most_sent, sent_at, taken_at, bad_net_flow, check11, balance_of, ruled_of, value_sent, value_taken};
 ghost use Rattle.audit.specs.Tallies.{Empty, Tally, Small, uneven, meters_to};
 
-// The answer of the checker.
-#[derive(Clone, Copy)]
-pub enum Checked {
-    Accepted,
-    Refused(book::Refusal),
-}
+use book::{Book, Refusal};
 
-// What the two rules say of a flow: why it is refused, or that it is fair, with what its meter modules send and what they take.
+// What the meter modules of a fair flow send, and what they take: the value is the one less the other.
 #[derive(Clone, Copy)]
-enum Ruled {
-    Refused(book::Refusal),
-    Fair(u64, u64),
+struct Value {
+    sent: u64,
+    taken: u64,
 }
 
 // A number above 0, and 0 for any other.
@@ -67,34 +62,28 @@ fn net_breaks(book: &[u8], flow: &[i32], n: usize, first: usize) -> bool
     requires { LentFlow book.now flow.now × AtNet book.now n first }
     ensures { result ≡ bad_net_flow book.now flow.now n }
 {
-    let many = book::pin_count(book, n);
     let mut sent: u64 = 0;
     let mut taken: u64 = 0;
-    let mut j = 0;
-    while j < many {
+    for j in 0..book::pin_count(book, n) {
         sent += sent_at(flow, first + j);
         taken += taken_at(flow, first + j);
-        j += 1;
     }
     (sent != taken) | ((book::weight(book, n) as u64) < sent)
 }
 
 // Check 11: the first net that breaks the net rule.
-fn broken_net(book: &[u8], flow: &[i32]) -> book::Found
+fn broken_net(book: &[u8], flow: &[i32]) -> Option<usize>
     requires { LentFlow book.now flow.now }
     ensures { result ≡ check11 book.now flow.now }
 {
-    let count = book::nets(book);
     let mut first = 0;
-    let mut n = 0;
-    while n < count {
+    for n in 0..book::nets(book) {
         if net_breaks(book, flow, n, first) {
-            return book::Found::At(n);
+            return Some(n);
         }
         first += book::pin_count(book, n);
-        n += 1;
     }
-    book::Found::Nothing
+    None
 }
 
 // Adds to the entry of module m.
@@ -110,13 +99,10 @@ fn tally(book: &[u8], flow: &[i32], sends: &mut [u64], takes: &mut [u64])
     requires { LentFlow book.now flow.now × Empty book.now sends.old × Empty book.now takes.old }
     ensures { Tally book.now flow.now sent sends.new × Tally book.now flow.now taken takes.new }
 {
-    let count = book::pins(book);
-    let mut p = 0;
-    while p < count {
+    for p in 0..book::pins(book) {
         let m = book::pin(book, p);
         add(sends, m, sent_at(flow, p));
         add(takes, m, taken_at(flow, p));
-        p += 1;
     }
 }
 
@@ -129,19 +115,11 @@ fn is_uneven(book: &[u8], sends: &[u64], takes: &[u64], m: usize) -> bool
 }
 
 // Check 12, on the sums of all modules: the lowest free module that is uneven.
-fn uneven_module(book: &[u8], sends: &[u64], takes: &[u64]) -> book::Found
+fn uneven_module(book: &[u8], sends: &[u64], takes: &[u64]) -> Option<usize>
     requires { Sound book.now × (modules book.now ≤ length sends.now) × (modules book.now ≤ length takes.now) }
     ensures { result ≡ lowest (uneven book.now sends.now takes.now) (modules book.now) }
 {
-    let count = book::modules(book);
-    let mut m = 0;
-    while m < count {
-        if is_uneven(book, sends, takes, m) {
-            return book::Found::At(m);
-        }
-        m += 1;
-    }
-    book::Found::Nothing
+    (0..book::modules(book)).find(|&m| is_uneven(book, sends, takes, m))
 }
 
 // What module m adds to the sum of the meter modules: its own entry where it is one.
@@ -157,37 +135,37 @@ fn meter_sum(book: &[u8], sums: &[u64]) -> u64
     requires { Sound book.now × Small book.now sums.now }
     ensures { result ≡ meters_to book.now sums.now (modules book.now) }
 {
-    let count = book::modules(book);
     let mut sum: u64 = 0;
-    let mut m = 0;
-    while m < count {
+    for m in 0..book::modules(book) {
         sum += meter_at(book, sums, m);
-        m += 1;
     }
     sum
 }
 
 // Check 12, and the value, from one pass over the pins.
-fn balance(book: &[u8], flow: &[i32]) -> Ruled
+fn balance(book: &[u8], flow: &[i32]) -> Result<Value, Refusal>
     requires { LentFlow book.now flow.now }
     ensures { result ≡ balance_of book.now flow.now }
 {
-    let mut sends: [u64; book::Book::MODULES] = [0; book::Book::MODULES];
-    let mut takes: [u64; book::Book::MODULES] = [0; book::Book::MODULES];
+    let mut sends: [u64; Book::MODULES] = [0; Book::MODULES];
+    let mut takes: [u64; Book::MODULES] = [0; Book::MODULES];
     tally(book, flow, &mut sends, &mut takes);
-    if let book::Found::At(m) = uneven_module(book, &sends, &takes) {
-        return Ruled::Refused(book::Refusal::ModuleRule(m));
+    if let Some(m) = uneven_module(book, &sends, &takes) {
+        return Err(Refusal::ModuleRule(m));
     }
-    Ruled::Fair(meter_sum(book, &sends), meter_sum(book, &takes))
+    Ok(Value {
+        sent: meter_sum(book, &sends),
+        taken: meter_sum(book, &takes),
+    })
 }
 
 // Checks 11 and 12, and the value.
-fn rules(book: &[u8], flow: &[i32]) -> Ruled
+fn rules(book: &[u8], flow: &[i32]) -> Result<Value, Refusal>
     requires { LentFlow book.now flow.now }
     ensures { result ≡ ruled_of book.now flow.now }
 {
-    if let book::Found::At(n) = broken_net(book, flow) {
-        return Ruled::Refused(book::Refusal::NetRule(n));
+    if let Some(n) = broken_net(book, flow) {
+        return Err(Refusal::NetRule(n));
     }
     balance(book, flow)
 }
@@ -204,44 +182,37 @@ fn agree(sent: u64, taken: u64, price: usize, claim: u32) -> bool
 }
 
 // Checks 11 to 13, of a good side and a flow with a number for each pin.
-fn check_good(book: &[u8], side: &[u8], flow: &[i32], claim: u32) -> Checked
+fn check_good(book: &[u8], side: &[u8], flow: &[i32], claim: u32) -> Result<(), Refusal>
     requires { Lent book.now side.now × LentFlow book.now flow.now }
     ensures { result ≡ checked_good book.now side.now flow.now claim }
 {
-    match rules(book, flow) {
-        Ruled::Refused(why) => Checked::Refused(why),
-        Ruled::Fair(sent, taken) => {
-            if agree(sent, taken, side::price_of(book, side), claim) {
-                Checked::Accepted
-            } else {
-                Checked::Refused(book::Refusal::Values)
-            }
-        }
+    let value = rules(book, flow)?;
+    if !agree(value.sent, value.taken, side::price_of(book, side), claim) {
+        return Err(Refusal::Values);
     }
+    Ok(())
 }
 
 // Checks 8, 9 and 11 to 13 of a book that reads. Every lent buffer is measured before any bit of the side is looked at.
-fn check_sound(book: &[u8], side: &[u8], flow: &[i32], claim: u32) -> Checked
+fn check_sound(book: &[u8], side: &[u8], flow: &[i32], claim: u32) -> Result<(), Refusal>
     requires { Sound book.now }
     ensures { result ≡ checked_sound book.now side.now flow.now claim }
 {
     if (flow.len() < book::pins(book)) | side::is_short(book, side) {
-        return Checked::Refused(book::Refusal::Buffer);
+        return Err(Refusal::Buffer);
     }
     if !side::is_good(book, side) {
-        return Checked::Refused(book::Refusal::Side);
+        return Err(Refusal::Side);
     }
     check_good(book, side, flow, claim)
 }
 
 // The checker, on any bytes and any numbers: checks 1 to 6, 8, 9 and 11 to 13. Nothing is written.
-pub fn check(book: &[u8], side: &[u8], flow: &[i32], price: u32) -> Checked
+pub fn check(book: &[u8], side: &[u8], flow: &[i32], price: u32) -> Result<(), Refusal>
     ensures { result ≡ checked_of book.now side.now flow.now price }
 {
-    match book::read(book) {
-        book::Reading::Good(_) => check_sound(book, side, flow, price),
-        book::Reading::Refused(why) => Checked::Refused(why),
-    }
+    book::read(book)?;
+    check_sound(book, side, flow, price)
 }
 
 // The number where the test holds, and 0 where it does not.
@@ -256,15 +227,12 @@ pub fn value_of(book: &[u8], flow: &[i32]) -> usize
     requires { LentFlow book.now flow.now × (value_taken book.now flow.now ≤ value_sent book.now flow.now) }
     ensures { value_taken book.now flow.now + result ≡ value_sent book.now flow.now }
 {
-    let count = book::pins(book);
     let mut sent: u64 = 0;
     let mut taken: u64 = 0;
-    let mut p = 0;
-    while p < count {
+    for p in 0..book::pins(book) {
         let on = book::mark(book, book::pin(book, p)) == 1;
         sent += if_on(on, sent_at(flow, p));
         taken += if_on(on, taken_at(flow, p));
-        p += 1;
     }
     (sent - taken) as usize
 }

@@ -1,10 +1,15 @@
 -- `audit::balance` meets its contract, by each way out: two fresh arrays are empty tallies. Assumes nothing.
+use Rattle.std.specs.Prelude.{ℕ, Result, Ok}
+use Rattle.book.specs.declared.Refusal.{Refusal}
+use Rattle.audit.specs.declared.Value.{Value}
 use mathlib.Core.Path.{refl, sym, ap₂, ◌∙◌}
 use Rattle.line.specs.Flow.{sent, taken}
 use Rattle.audit.specs.Rules.{balance_of}
-use Rattle.audit.specs.declared.Ruled.TheVariants.{Fair}
 use Rattle.audit.proofs.Tallied.{fresh_empty, tally_small, tally_uneven, tally_meters}
 use Rattle.audit.proofs.balance.Goals as goal
+
+abbrev valued : ℕ → ℕ → Result Value Refusal
+valued x y = Ok (record { sent = x; taken = y })
 
 pub tally-requires : goal.tally-requires
 tally-requires c =
@@ -16,11 +21,11 @@ uneven_module-requires c =
     let t = c.tally.ensures in
     (c.requires.sound, t.0.size, t.1.size)
 
-pub returns-in-At : goal.returns-in-At
+pub returns-in-Some : goal.returns-in-Some
 unfolding balance_of
-returns-in-At c =
+returns-in-Some c =
     let t = c.tally.ensures in
-    rw (sym (tally_uneven _ c.requires.sound _ _ _ t.0 t.1) ∙ sym c.uneven_module.ensures ∙ c.in-At.is)
+    rw (sym (tally_uneven _ c.requires.sound _ _ _ t.0 t.1) ∙ sym c.uneven_module.ensures ∙ c.in-Some.is)
 
 pub meter_sum-requires : goal.meter_sum-requires
 meter_sum-requires c =
@@ -38,4 +43,4 @@ returns c =
     let h = c.requires.sound in
     let t = c.tally.ensures in
     rw (sym (tally_uneven _ h _ _ _ t.0 t.1) ∙ sym c.uneven_module.ensures ∙ c.in_default.is)
-    (ap₂ Fair (c.meter_sum.ensures ∙ tally_meters _ h _ sent _ t.0) (c.meter_sum-2.ensures ∙ tally_meters _ h _ taken _ t.1))
+    (ap₂ (λ (x y : ℕ). valued x y) (c.meter_sum.ensures ∙ tally_meters _ h _ sent _ t.0) (c.meter_sum-2.ensures ∙ tally_meters _ h _ taken _ t.1))

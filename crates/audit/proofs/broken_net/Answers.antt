@@ -10,20 +10,19 @@ use Rattle.audit.proofs.broken_net.Goals as goal
 
 pub loop-n-init : goal.loop-n-init
 unfolding lowest first first_pin
-loop-n-init c = (omega arith, refl, refl, omega arith)
+loop-n-init c = (refl, refl, omega arith)
 
 pub returns-then-net_breaks : goal.returns-then-net_breaks
 unfolding check11
-returns-then-net_breaks c = sym (lowest_found _ c.loop-n.n _ c.loop-n.invariant.1 (sym c.net_breaks.ensures ∙ c.if-net_breaks.true) (omega arith))
+returns-then-net_breaks c = sym (lowest_found _ c.loop-n.n _ c.loop-n.invariant.0 (sym c.net_breaks.ensures ∙ c.if-net_breaks.true) (omega arith))
 
 pub loop-n-preserved : goal.loop-n-preserved
 loop-n-preserved c = (
-  omega arith,
-  lowest_more _ c.loop-n.n c.loop-n.invariant.1 (sym c.net_breaks.ensures ∙ c.if-net_breaks.false),
+  lowest_more _ c.loop-n.n c.loop-n.invariant.0 (sym c.net_breaks.ensures ∙ c.if-net_breaks.false),
   omega (arith, first_pin-suc c.args.book.now c.loop-n.n),
   omega arith,
 )
 
 pub returns : goal.returns
 unfolding check11
-returns c = sym (lowest_ended _ c.loop-n.n _ c.loop-n.invariant.1 (omega arith))
+returns c = sym (lowest_ended _ c.loop-n.n _ c.loop-n.invariant.0 (omega arith))

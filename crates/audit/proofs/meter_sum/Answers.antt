@@ -7,14 +7,14 @@ use Rattle.audit.proofs.Totals.{sum_none, sum_next}
 use Rattle.audit.proofs.meter_sum.Goals as goal
 
 pub loop-m-init : goal.loop-m-init
-loop-m-init c = (omega arith, sum_none _, omega arith)
+loop-m-init c = (sum_none _, omega arith)
 
 pub loop-m-preserved : goal.loop-m-preserved
 loop-m-preserved c =
     let i = c.loop-m in
-    (omega arith, ap₂ (λ (x y : ℕ). x + y) i.invariant.1 c.meter_at-sum.ensures.0 ∙ sym (sum_next _ i.m), omega arith)
+    (ap₂ (λ (x y : ℕ). x + y) i.invariant.0 c.meter_at-sum.ensures.0 ∙ sym (sum_next _ i.m), omega arith)
 
 pub returns : goal.returns
 returns c =
     let a = c.args in
-    c.loop-m.invariant.1 ∙ ap (meters_to a.book.now a.sums.now) (omega arith)
+    c.loop-m.invariant.0 ∙ ap (meters_to a.book.now a.sums.now) (omega arith)

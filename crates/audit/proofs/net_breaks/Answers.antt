@@ -11,7 +11,7 @@ use Rattle.audit.proofs.net_breaks.Goals as goal
 use Rattle.audit.proofs.net_breaks.Goals.{In-loop-j}
 
 pub loop-j-init : goal.loop-j-init
-loop-j-init c = (omega arith, sum_none _, sum_none _, omega arith, omega arith)
+loop-j-init c = (sum_none _, sum_none _, omega arith, omega arith)
 
 -- pin j of the net has a number
 here : (c : In-loop-j) → c.args.first + c.loop-j.j < length c.args.flow.now
@@ -37,9 +37,8 @@ loop-j-preserved c =
     let a = c.args in
     let i = c.loop-j in
     let at : a.first + i.j ≡ first_pin a.book.now a.n + i.j = ap (λ (k : ℕ). k + i.j) c.requires.1.begins in (
-      omega arith,
-      ap₂ (λ (x y : ℕ). x + y) i.invariant.1 (c.sent_at-sent.ensures.0 ∙ ap (sent_at a.flow.now) at) ∙ sym (sum_next _ i.j),
-      ap₂ (λ (x y : ℕ). x + y) i.invariant.2 (c.taken_at-taken.ensures.0 ∙ ap (taken_at a.flow.now) at) ∙ sym (sum_next _ i.j),
+      ap₂ (λ (x y : ℕ). x + y) i.invariant.0 (c.sent_at-sent.ensures.0 ∙ ap (sent_at a.flow.now) at) ∙ sym (sum_next _ i.j),
+      ap₂ (λ (x y : ℕ). x + y) i.invariant.1 (c.taken_at-taken.ensures.0 ∙ ap (taken_at a.flow.now) at) ∙ sym (sum_next _ i.j),
       omega arith,
       omega arith,
     )
@@ -50,4 +49,4 @@ returns c =
     let a = c.args in
     let i = c.loop-j in
     let e : i.j ≡ pin_count a.book.now a.n = omega arith in
-    rw (i.invariant.1 ∙ ap (net_sent_to a.book.now a.flow.now a.n) e, i.invariant.2 ∙ ap (net_taken_to a.book.now a.flow.now a.n) e, c.weight.ensures.0)
+    rw (i.invariant.0 ∙ ap (net_sent_to a.book.now a.flow.now a.n) e, i.invariant.1 ∙ ap (net_taken_to a.book.now a.flow.now a.n) e, c.weight.ensures.0)

@@ -1,12 +1,9 @@
 -- `audit::net_breaks` meets its contract: the two sums are those of the net's pins before `j`, each at most `most_sent` for each of them. Assumes nothing.
-use Prim.Native.Nat.{◌*◌, ◌-◌, ◌≤◌}
+use Prim.Native.Nat.{◌*◌, ◌≤◌}
 use mathlib.Core.Path.{◌≡◌}
 use Rattle.audit.specs.Rules.{most_sent, net_sent_to, net_taken_to}
 use Rattle.audit.proofs.net_breaks.Given as goal
 
 abbrev pub invariant-loop-j : goal.invariant-loop-j
 invariant-loop-j l =
-    (l.j ≤ l.many) × (l.sent ≡ net_sent_to l.book l.flow l.n l.j) × (l.taken ≡ net_taken_to l.book l.flow l.n l.j) × (l.sent ≤ most_sent * l.j) × (l.taken ≤ most_sent * l.j)
-
-abbrev pub decreases-loop-j : goal.decreases-loop-j
-decreases-loop-j l = l.many - l.j
+    (l.sent ≡ net_sent_to l.book l.flow l.n l.j) × (l.taken ≡ net_taken_to l.book l.flow l.n l.j) × (l.sent ≤ most_sent * l.j) × (l.taken ≤ most_sent * l.j)

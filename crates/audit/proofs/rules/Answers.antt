@@ -3,9 +3,9 @@ use mathlib.Core.Path.{sym, ◌∙◌}
 use Rattle.audit.specs.Rules.{ruled_of}
 use Rattle.audit.proofs.rules.Goals as goal
 
-pub returns-in-At : goal.returns-in-At
+pub returns-in-Some : goal.returns-in-Some
 unfolding ruled_of
-returns-in-At c = rw (sym c.broken_net.ensures ∙ c.in-At.is)
+returns-in-Some c = rw (sym c.broken_net.ensures ∙ c.in-Some.is)
 
 pub returns : goal.returns
 unfolding ruled_of

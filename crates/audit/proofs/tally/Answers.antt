@@ -7,15 +7,15 @@ use Rattle.audit.proofs.Tallied.{room, tally_none, tally_more}
 use Rattle.audit.proofs.tally.Goals as goal
 
 pub loop-p-init : goal.loop-p-init
-loop-p-init c = (omega arith, refl, refl, tally_none _ _ sent _ c.requires.1, tally_none _ _ taken _ c.requires.2)
+loop-p-init c = (refl, refl, tally_none _ _ sent _ c.requires.1, tally_none _ _ taken _ c.requires.2)
 
 pub add-requires : goal.add-requires
 add-requires c =
-    let r = room _ _ sent c.requires.0.sound c.loop-p.p _ c.loop-p.invariant.3 (omega arith) _ c.pin-m.ensures.0 in (r.0, r.1, c.sent_at.ensures.1)
+    let r = room _ _ sent c.requires.0.sound c.loop-p.p _ c.loop-p.invariant.2 (omega arith) _ c.pin-m.ensures.0 in (r.0, r.1, c.sent_at.ensures.1)
 
 pub add-requires-in-loop-p : goal.add-requires-in-loop-p
 add-requires-in-loop-p c =
-    let r = room _ _ taken c.requires.0.sound c.loop-p.p _ c.loop-p.invariant.4 (omega arith) _ c.pin-m.ensures.0 in (r.0, r.1, c.taken_at.ensures.1)
+    let r = room _ _ taken c.requires.0.sound c.loop-p.p _ c.loop-p.invariant.3 (omega arith) _ c.pin-m.ensures.0 in (r.0, r.1, c.taken_at.ensures.1)
 
 pub loop-p-preserved : goal.loop-p-preserved
 loop-p-preserved c =
@@ -24,17 +24,17 @@ loop-p-preserved c =
     let m = c.pin-m in
     let x = c.sent_at in
     let y = c.taken_at in
-    let a = tally_more _ _ sent h i.p _ i.invariant.3 (omega arith) _ m.ensures.0 _ x.ensures.0 x.ensures.1 _ c.add.ensures in
-    let b = tally_more _ _ taken h i.p _ i.invariant.4 (omega arith) _ m.ensures.0 _ y.ensures.0 y.ensures.1 _ c.add-in-loop-p.ensures in
-    (omega arith, a.0 ∙ i.invariant.1, b.0 ∙ i.invariant.2, a.1, b.1)
+    let a = tally_more _ _ sent h i.p _ i.invariant.2 (omega arith) _ m.ensures.0 _ x.ensures.0 x.ensures.1 _ c.add.ensures in
+    let b = tally_more _ _ taken h i.p _ i.invariant.3 (omega arith) _ m.ensures.0 _ y.ensures.0 y.ensures.1 _ c.add-in-loop-p.ensures in
+    (a.0 ∙ i.invariant.0, b.0 ∙ i.invariant.1, a.1, b.1)
 
 pub shape_of-sends : goal.shape_of-sends
-shape_of-sends c = c.loop-p.invariant.1
+shape_of-sends c = c.loop-p.invariant.0
 
 pub shape_of-takes : goal.shape_of-takes
-shape_of-takes c = c.loop-p.invariant.2
+shape_of-takes c = c.loop-p.invariant.1
 
 pub returns : goal.returns
 returns c =
     let e : c.loop-p.p ≡ pins c.args.book.now = omega arith in
-    rw (← e) (c.loop-p.invariant.3, c.loop-p.invariant.4)
+    rw (← e) (c.loop-p.invariant.2, c.loop-p.invariant.3)

@@ -1,5 +1,4 @@
 -- `audit::tally` meets its contract: the two lists are the tallies of the pins before `p`. Assumes nothing.
-use Prim.Native.Nat.{◌-◌, ◌≤◌}
 use mathlib.Core.Path.{◌≡◌}
 use lib.ListN.{length}
 use Rattle.line.specs.Flow.{sent, taken}
@@ -8,8 +7,4 @@ use Rattle.audit.proofs.tally.Given as goal
 
 abbrev pub invariant-loop-p : goal.invariant-loop-p
 invariant-loop-p l =
-    (l.p ≤ l.count) × (length l.sends ≡ length l.initial.sends) × (length l.takes ≡ length l.initial.takes) × TallyTo l.book l.flow sent l.p l.sends × TallyTo l.book l.flow taken l.p l.takes
-
-abbrev pub decreases-loop-p : goal.decreases-loop-p
-decreases-loop-p l =
-    l.count - l.p
+    (length l.sends ≡ length l.initial.sends) × (length l.takes ≡ length l.initial.takes) × TallyTo l.book l.flow sent l.p l.sends × TallyTo l.book l.flow taken l.p l.takes

@@ -1,19 +1,14 @@
--- `audit::uneven_module` meets its contract: no module before `m` is uneven. Assumes nothing.
-use mathlib.Core.Path.{refl, sym, ◌∙◌}
-use native.Mathlib.Omega.{arith}
-use Rattle.book.proofs.Firsts.{lowest_more, lowest_found, lowest_ended}
-use Rattle.book.specs.First.{first, lowest}
+use Rattle.std.specs.Prelude.{◌≡◌, ℕ, Bool, true, false}
+use Rattle.std.proofs.lemmas.Iterator.{first_from_Range}
+use borrow.Author.Rules.{rules}
+use borrow.Author.Tests.{tests}
+use Rattle.book.proofs.Firsts.{lowest_by}
+use Rattle.audit.specs.Tallies.{uneven}
 use Rattle.audit.proofs.uneven_module.Goals as goal
 
-pub loop-m-init : goal.loop-m-init
-unfolding lowest first
-loop-m-init c = (omega arith, refl)
-
-pub returns-then-is_uneven : goal.returns-then-is_uneven
-returns-then-is_uneven c = sym (lowest_found _ c.loop-m.m _ c.loop-m.invariant.1 (sym c.is_uneven.ensures ∙ c.if-is_uneven.true) (omega arith))
-
-pub loop-m-preserved : goal.loop-m-preserved
-loop-m-preserved c = (omega arith, lowest_more _ c.loop-m.m c.loop-m.invariant.1 (sym c.is_uneven.ensures ∙ c.if-is_uneven.false))
-
 pub returns : goal.returns
-returns c = sym (lowest_ended _ c.loop-m.m _ c.loop-m.invariant.1 (omega arith))
+returns c =
+    let a = c.args in
+    let t : ℕ → Bool = uneven a.book.now a.sends.now a.takes.now in
+    rw (← c.modules.ensures) (lowest_by t _ _
+    (first_from_Range _ _ _ _ (λ (m : ℕ). t m ≡ true) (λ (m : ℕ). t m ≡ false) c.find.ensures.ran (λ x q k. search (rules, tests)) (λ x q k. search (rules, tests))))

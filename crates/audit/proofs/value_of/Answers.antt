@@ -14,7 +14,7 @@ use Rattle.audit.proofs.value_of.Goals as goal
 use Rattle.audit.proofs.value_of.Goals.{After-loop-p}
 
 pub loop-p-init : goal.loop-p-init
-loop-p-init c = (omega arith, sum_none _, sum_none _, omega arith, omega arith)
+loop-p-init c = (sum_none _, sum_none _, omega arith, omega arith)
 
 pub mark-on-requires : goal.mark-on-requires
 mark-on-requires c =
@@ -28,9 +28,8 @@ loop-p-preserved c =
     let k : c.mark-on.result ≡ mark s (pin s i.p) = c.mark-on.ensures.0 ∙ ap (mark s) c.pin.ensures.0 in
     let x = c.if_on-sent.ensures.0 ∙ ap₂ (λ (m v : ℕ). cond (eqb m 1) v 0) k c.sent_at.ensures.0 in
     let y = c.if_on-taken.ensures.0 ∙ ap₂ (λ (m v : ℕ). cond (eqb m 1) v 0) k c.taken_at.ensures.0 in (
-      omega arith,
-      ap₂ (λ (a b : ℕ). a + b) i.invariant.1 x ∙ sym (sum_next _ i.p),
-      ap₂ (λ (a b : ℕ). a + b) i.invariant.2 y ∙ sym (sum_next _ i.p),
+      ap₂ (λ (a b : ℕ). a + b) i.invariant.0 x ∙ sym (sum_next _ i.p),
+      ap₂ (λ (a b : ℕ). a + b) i.invariant.1 y ∙ sym (sum_next _ i.p),
       omega arith,
       omega arith,
     )
@@ -44,7 +43,7 @@ whole c =
     let s = c.args.book.now in
     let xs = c.args.flow.now in
     let e : c.loop-p.p ≡ pins s = omega arith in
-    (c.loop-p.invariant.1 ∙ ap (sent_to s xs (meters (card_of s))) e, c.loop-p.invariant.2 ∙ ap (taken_to s xs (meters (card_of s))) e)
+    (c.loop-p.invariant.0 ∙ ap (sent_to s xs (meters (card_of s))) e, c.loop-p.invariant.1 ∙ ap (taken_to s xs (meters (card_of s))) e)
 
 pub overflow_sub-result : goal.overflow_sub-result
 overflow_sub-result c = omega (arith, (whole (goal.at.overflow_sub-result c).After-loop-p).0, (whole (goal.at.overflow_sub-result c).After-loop-p).1, c.requires.1)

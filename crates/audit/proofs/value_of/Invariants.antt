@@ -1,5 +1,5 @@
 -- `audit::value_of` meets its contract: the two sums are those of the meter modules' pins before `p`, each at most `most_sent` for each of them. Assumes nothing.
-use Prim.Native.Nat.{◌*◌, ◌-◌, ◌≤◌}
+use Prim.Native.Nat.{◌*◌, ◌≤◌}
 use mathlib.Core.Path.{◌≡◌}
 use Rattle.line.specs.Flow.{meters}
 use Rattle.book.specs.Cards.{card_of}
@@ -8,7 +8,4 @@ use Rattle.audit.proofs.value_of.Given as goal
 
 abbrev pub invariant-loop-p : goal.invariant-loop-p
 invariant-loop-p l =
-    (l.p ≤ l.count) × (l.sent ≡ sent_to l.book l.flow (meters (card_of l.book)) l.p) × (l.taken ≡ taken_to l.book l.flow (meters (card_of l.book)) l.p) × (l.sent ≤ most_sent * l.p) × (l.taken ≤ most_sent * l.p)
-
-abbrev pub decreases-loop-p : goal.decreases-loop-p
-decreases-loop-p l = l.count - l.p
+    (l.sent ≡ sent_to l.book l.flow (meters (card_of l.book)) l.p) × (l.taken ≡ taken_to l.book l.flow (meters (card_of l.book)) l.p) × (l.sent ≤ most_sent * l.p) × (l.taken ≤ most_sent * l.p)
