@@ -1,6 +1,6 @@
 -- A split's sides among all cheapest sides, and the splits of two books: the order of nets and pins changes nothing; one module more pinned to the meter lets the near
 -- side grow, and one more pinned to the maker lets the far side shrink. Assumes nothing.
-use Rattle.std.specs.Prelude.{◌≡◌, ℕ, ◌<◌, ◌≤◌, not, T, List}
+use Rattle.std.specs.Prelude.{◌≡◌, ℕ, ◌<◌, ◌≤◌, not, T, List, Ok}
 use mathlib.Core.Path.{sym, ap, ◌∙◌}
 use native.Mathlib.Omega.{arith}
 use Rattle.line.specs.Card.{Net, Side, price, Cheapest, Inside, Near, Far, Alike, remark, pin, Reordered}
@@ -13,14 +13,13 @@ use Rattle.line.proofs.Order.{price_order}
 use Rattle.book.specs.Format.{modules, area, mark}
 use Rattle.book.specs.Cards.{card_of, nets_of, area_of}
 use Rattle.side.specs.Sides.{side_of}
-use Rattle.split.specs.declared.Parted.TheVariants.{Price}
 use Rattle.split.specs.Splits.{Buffers, Split}
 use Rattle.split.proofs.Answers.{split_tells}
 use Rattle.split.proofs.Least.{split_near, split_far, near_price, far_price, split_price}
 
 -- ---- one book
 
-module _ (s : List ℕ) (old new : Buffers) (p : ℕ) (k : Split s old (Price p) new) where
+module _ (s : List ℕ) (old new : Buffers) (p : ℕ) (k : Split s old (Ok p) new) where
   -- the near side lies inside every cheapest side
   pub near_inside : (t : Side) → Cheapest (card_of s) t → Inside (card_of s) (side_of new.near) t
   near_inside = (split_near s old new p k).inside
@@ -43,7 +42,7 @@ pub record Rearranged (s t : List ℕ) : Type 0 where
   pub marks_are : Alike (modules s) (mark s) (mark t)
   pub nets_are : Reordered (nets_of s) (nets_of t)
 
-module _ (s t : List ℕ) (o : Rearranged s t) (old new old' new' : Buffers) (p q : ℕ) (k : Split s old (Price p) new) (l : Split t old' (Price q) new') where
+module _ (s t : List ℕ) (o : Rearranged s t) (old new old' new' : Buffers) (p q : ℕ) (k : Split s old (Ok p) new) (l : Split t old' (Ok q) new') where
   same : Same (card_of s) (card_of t) (cut (card_of s)) (cut (card_of t))
   same = record { modules = o.modules_are; marks = o.marks_are; prices = price_order o.nets_are }
 
@@ -86,7 +85,7 @@ module _ (k v : ℕ) (s t : List ℕ) (g : Pinned k v s t) where
   pinned_far x h = of_far (remark (card_of s) (pin k (only v) (mark s))) x (farthest_same pinned_same x (to_far (card_of t) x h))
 
 -- to the meter
-module _ (v : ℕ) (s t : List ℕ) (g : Pinned 1 v s t) (old new old' new' : Buffers) (p q : ℕ) (k : Split s old (Price p) new) (l : Split t old' (Price q) new') where
+module _ (v : ℕ) (s t : List ℕ) (g : Pinned 1 v s t) (old new old' new' : Buffers) (p q : ℕ) (k : Split s old (Ok p) new) (l : Split t old' (Ok q) new') where
   before : Near (card_of s) (side_of new.near)
   before = split_near s old new p k
 
@@ -115,7 +114,7 @@ module _ (v : ℕ) (s t : List ℕ) (g : Pinned 1 v s t) (old new old' new' : Bu
   meter_stays_price i = sym (near_price s old new p k) ∙ pin_same_price (card_of s) v (side_of new.near) (side_of new'.near) before after i ∙ after-price
 
 -- to the maker
-module _ (v : ℕ) (s t : List ℕ) (g : Pinned 2 v s t) (old new old' new' : Buffers) (p q : ℕ) (k : Split s old (Price p) new) (l : Split t old' (Price q) new') where
+module _ (v : ℕ) (s t : List ℕ) (g : Pinned 2 v s t) (old new old' new' : Buffers) (p q : ℕ) (k : Split s old (Ok p) new) (l : Split t old' (Ok q) new') where
   far_before : Far (card_of s) (side_of new.far)
   far_before = split_far s old new p k
 

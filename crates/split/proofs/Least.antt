@@ -1,5 +1,5 @@
 -- What a split answers is least and greatest: its price is the lowest of a side that separates, both its sides have it, and no fair flow has a larger value. Assumes nothing.
-use Rattle.std.specs.Prelude.{◌≡◌, ℕ, ◌≤◌, List, take, ℤ, pos, ◌≤ℤ◌}
+use Rattle.std.specs.Prelude.{◌≡◌, ℕ, ◌≤◌, List, take, ℤ, pos, ◌≤ℤ◌, Ok}
 use mathlib.Core.Path.{sym, ap, ◌∙◌}
 use Rattle.line.specs.Card.{Side, price, Separates, Cheapest, Near, Far}
 use Rattle.line.specs.Flow.{Fair, value}
@@ -10,12 +10,11 @@ use Rattle.book.specs.Cards.{card_of, nets_of}
 use Rattle.book.proofs.CardLaws.{card_valid}
 use Rattle.side.specs.Sides.{side_of}
 use Rattle.audit.specs.Certificate.{Greatest}
-use Rattle.split.specs.declared.Parted.TheVariants.{Price}
 use Rattle.split.specs.Splits.{Buffers, Split}
 use Rattle.split.specs.Verdicts.{Told}
 use Rattle.split.proofs.Answers.{split_tells}
 
-module _ (s : List ℕ) (old new : Buffers) (p : ℕ) (k : Split s old (Price p) new) where
+module _ (s : List ℕ) (old new : Buffers) (p : ℕ) (k : Split s old (Ok p) new) where
   told : Told s p old new
   told = split_tells s old new p k
 

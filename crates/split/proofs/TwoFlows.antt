@@ -1,6 +1,6 @@
 -- A book with two splits: their answer and their sides are one, and their flows are two fair ones of one value. Assumes nothing.
 -- From meter 0 there are two ways on, by module 1 and by module 2, and both end in the one net to maker 3; each net has weight 1, so the price is 1.
-use Rattle.std.specs.Prelude.{◌≡◌, ℕ, zero, suc, ◌<◌, Bool, true, false, ◌&&◌, T, leb, List, [], ◌∷◌, get_or, replicate, ℤ, pos, negsuc}
+use Rattle.std.specs.Prelude.{◌≡◌, ℕ, zero, suc, ◌<◌, Bool, true, false, ◌&&◌, T, leb, List, [], ◌∷◌, get_or, replicate, ℤ, pos, negsuc, Ok}
 use mathlib.Core.Path.{refl, ap, ◌∙◌}
 use native.Mathlib.Omega.{arith}
 use lib.Dec.{leb→le, lit≤}
@@ -15,13 +15,11 @@ use Rattle.book.specs.Listed.{listed}
 use Rattle.book.specs.Format.{modules, mark, u16, u32, field, entry_is, laid, first_pin}
 use Rattle.book.specs.Checks.{counted, bad_module, bad_net, bad_pin, check3, check4, check5, lacks, rest_of, read_of}
 use Rattle.book.specs.Cards.{card_of, nets_of}
-use Rattle.book.specs.declared.Reading.TheVariants.{Good}
 use Rattle.book.proofs.CardLaws.{card_valid}
 use Rattle.book.proofs.Sound.{sound}
 use Rattle.side.specs.Sides.{side_of}
 use Rattle.side.proofs.Spares.{test_tells}
 use Rattle.flow.specs.Cards.{Small}
-use Rattle.split.specs.declared.Parted.TheVariants.{Price}
 use Rattle.split.specs.Solved.{Row, Solved}
 use Rattle.split.specs.Splits.{Buffers, buffers, Room, Split}
 use Rattle.split.proofs.Answers.{told_split}
@@ -37,7 +35,7 @@ diamond =
     ∷ 0x00 ∷ 0x00 ∷ 0x01 ∷ 0x00 ∷ 0x00 ∷ 0x00 ∷ 0x02 ∷ 0x00 ∷ 0x01 ∷ 0x00 ∷ 0x02 ∷ 0x00 ∷ 0x03 ∷ 0x00
     ∷ []
 
-diamond_reads : read_of diamond ≡ Good (record { modules = 4; nets = 3; pins = 7 })
+diamond_reads : read_of diamond ≡ Ok (record { modules = 4; nets = 3; pins = 7 })
 unfolding read_of rest_of lacks check5 check4 check3 bad_pin bad_net bad_module counted first_pin laid entry_is field u32 u16 lowest first
 diamond_reads = refl
 
@@ -143,7 +141,7 @@ room = record { sound = sound diamond _ diamond_reads; for_near = lit≤ tt; for
 solved : (zs : List ℤ) → Fair (card_of diamond) zs → value (card_of diamond) zs ≡ pos 1 → T (all_small zs) → Solved (card_of diamond) (0 ∷ []) (0 ∷ []) (7 ∷ []) (7 ∷ []) zs
 solved zs f v t = record { near_row = row; far_row = row; near_side = near; far_side = far; fair = f; value = v ∙ ap pos costs; small = λ i l. small zs t i }
 
-pub one_split : Split diamond lent (Price 1) (left by_one)
+pub one_split : Split diamond lent (Ok 1) (left by_one)
 unfolding u32 u16
 one_split = told_split diamond lent (left by_one) 1 (record {
   reads = (_, diamond_reads);
@@ -152,7 +150,7 @@ one_split = told_split diamond lent (left by_one) 1 (record {
   holds = record { solved = solved by_one one_fair one_value tt; long = refl; tail = refl; price_is = costs };
 })
 
-pub two_split : Split diamond lent (Price 1) (left by_two)
+pub two_split : Split diamond lent (Ok 1) (left by_two)
 unfolding u32 u16
 two_split = told_split diamond lent (left by_two) 1 (record {
   reads = (_, diamond_reads);

@@ -1,5 +1,6 @@
 -- Any two results that the split's contract allows are one but for the flow's numbers: those may differ, at one value. Assumes nothing.
-use Rattle.std.specs.Prelude.{◌≡◌, ℕ, ◌<◌, List, ◌++◌, length, get_or, take, drop, ℤ, pos}
+use Rattle.book.specs.declared.Refusal.{Refusal}
+use Rattle.std.specs.Prelude.{◌≡◌, ℕ, ◌<◌, List, ◌++◌, length, get_or, take, drop, ℤ, pos, Result, Ok, Err}
 use mathlib.Core.Path.{refl, sym, ap, ◌∙◌}
 use lib.Seq.{length-take-le}
 use Rattle.line.specs.Card.{price}
@@ -9,8 +10,6 @@ use Rattle.book.specs.Format.{modules, pins}
 use Rattle.book.specs.Cards.{card_of, nets_of}
 use Rattle.side.specs.Sides.{side_of, Bytes}
 use Rattle.flow.specs.Cards.{Small}
-use Rattle.split.specs.declared.Parted.{Parted}
-use Rattle.split.specs.declared.Parted.TheVariants.{Price, Refused}
 use Rattle.split.specs.Solved.{Solved}
 use Rattle.split.specs.Splits.{Buffers, buffers, Split}
 use Rattle.split.proofs.Held.{holds_of}
@@ -19,7 +18,7 @@ use Rattle.split.proofs.Answers.{split_tells, told_split, split_refused, refuses
 use Rattle.split.proofs.Least.{flow_value}
 
 -- one answer, one near side and one far side with their tails, and flows of one length, one tail and one value
-pub record One (s : List ℕ) (r q : Parted) (new fresh : Buffers) : Type 0 where
+pub record One (s : List ℕ) (r q : Result ℕ Refusal) (new fresh : Buffers) : Type 0 where
   pub answer : r ≡ q
   pub near : new.near ≡ fresh.near
   pub far : new.far ≡ fresh.far
@@ -29,8 +28,8 @@ pub record One (s : List ℕ) (r q : Parted) (new fresh : Buffers) : Type 0 wher
 
 module _ (s : List ℕ) (old new fresh : Buffers) where
   -- where both are prices
-  prices_one : (p n : ℕ) → Split s old (Price p) new → Split s old (Price n) fresh →
-      Bytes new.near → Bytes new.far → Bytes fresh.near → Bytes fresh.far → One s (Price p) (Price n) new fresh
+  prices_one : (p n : ℕ) → Split s old (Ok p) new → Split s old (Ok n) fresh →
+      Bytes new.near → Bytes new.far → Bytes fresh.near → Bytes fresh.far → One s (Ok p) (Ok n) new fresh
   prices_one p n k l a b c d =
       let t = (split_tells s old new p k).holds in
       let u = (split_tells s old fresh n l).holds in
@@ -40,7 +39,7 @@ module _ (s : List ℕ) (old new fresh : Buffers) where
       (far_one (card_of s) (side_of new.far) (side_of fresh.far) t.solved.far_side u.solved.far_side) in
       let e : p ≡ n = t.price_is ∙ ap (λ (z : List ℕ). price (nets_of s) (side_of z)) x ∙ sym u.price_is in
       record {
-        answer = ap Price e;
+        answer = ap Ok e;
         near = x;
         far = y;
         long = t.long ∙ sym u.long;
@@ -49,7 +48,7 @@ module _ (s : List ℕ) (old new fresh : Buffers) where
       }
 
   -- where nothing was written
-  kept_one : (r q : Parted) → r ≡ q → new ≡ fresh → One s r q new fresh
+  kept_one : (r q : Result ℕ Refusal) → r ≡ q → new ≡ fresh → One s r q new fresh
   kept_one r q a e = record {
     answer = a;
     near = ap (λ (b : Buffers). b.near) e;
@@ -59,22 +58,22 @@ module _ (s : List ℕ) (old new fresh : Buffers) where
     value_is = ap (λ (b : Buffers). value (card_of s) (take (pins s) b.flow)) e;
   }
 
-  pub split_one : (r q : Parted) → Split s old r new → Split s old q fresh →
+  pub split_one : (r q : Result ℕ Refusal) → Split s old r new → Split s old q fresh →
       Bytes new.near → Bytes new.far → Bytes fresh.near → Bytes fresh.far → One s r q new fresh
-  split_one (Price p) q k l a b c d =
+  split_one (Ok p) q k l a b c d =
       let t = split_tells s old new p k in
       let u = split_prices s old fresh q t.reads t.room l in
       rw u.answer (prices_one p u.at_price k (rw u.answer at l) a b c d)
-  split_one (Refused why) q k l a b c d =
+  split_one (Err why) q k l a b c d =
       let h = split_refused s old new why k in
-      let t = refuses_split s old new (Refused why) h k in
+      let t = refuses_split s old new (Err why) h k in
       let u = refuses_split s old fresh q h l in
-      kept_one (Refused why) q (t.refused ∙ sym u.refused) (t.kept ∙ sym u.kept)
+      kept_one (Err why) q (t.refused ∙ sym u.refused) (t.kept ∙ sym u.kept)
 
 -- ---- and no more can be said of the flow: in its place may stand any fair flow of that value, within a weight at each pin
 
-pub flow_other : (s : List ℕ) (old new : Buffers) (p : ℕ) (zs : List ℤ) → Split s old (Price p) new →
-    length zs ≡ pins s → Fair (card_of s) zs → value (card_of s) zs ≡ pos p → ((i : ℕ) → i < length zs → Small (get_or zs i (pos 0))) → Split s old (Price p) (buffers new.near new.far (zs ++ drop (pins s) old.flow))
+pub flow_other : (s : List ℕ) (old new : Buffers) (p : ℕ) (zs : List ℤ) → Split s old (Ok p) new →
+    length zs ≡ pins s → Fair (card_of s) zs → value (card_of s) zs ≡ pos p → ((i : ℕ) → i < length zs → Small (get_or zs i (pos 0))) → Split s old (Ok p) (buffers new.near new.far (zs ++ drop (pins s) old.flow))
 flow_other s old new p zs k n f v small =
     let t = split_tells s old new p k in
     let h = t.holds in

@@ -1,6 +1,5 @@
 -- When the split answers a price, and when it refuses and with what, in the page's words. This page holds definitions only.
-use Rattle.std.specs.Prelude.{◌≡◌, ℕ, ◌<◌, List, length}
-use Rattle.book.specs.declared.Reading.TheVariants as reading
+use Rattle.std.specs.Prelude.{◌≡◌, ℕ, ◌<◌, List, length, Err}
 use Rattle.book.specs.declared.Refusal.{Refusal}
 use Rattle.book.specs.declared.Refusal.TheVariants.{Buffer}
 use Rattle.book.specs.Format.{modules, pins}
@@ -25,5 +24,5 @@ pub record Told (s : List ℕ) (p : ℕ) (old new : Buffers) : Type 0 where
 
 -- the table of document 01, a case a number
 pub data Refuses (s : List ℕ) (old : Buffers) : Refusal → Type 0 where
-  reader : {why : Refusal} → read_of s ≡ reading.Refused why → Refuses s old why
+  reader : {why : Refusal} → read_of s ≡ Err why → Refuses s old why
   short : Reads s → Lacks s old → Refuses s old Buffer

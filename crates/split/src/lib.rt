@@ -14,14 +14,7 @@ ghost use Rattle.side.specs.Sides.{side_of};
 ghost use Rattle.split.specs.Solved.{Solved};
 ghost use Rattle.split.specs.Splits.{buffers, Room, Holds, SplitIf, Split, too_short};
 
-use book::Book;
-
-// The answer of the split.
-#[derive(Clone, Copy)]
-pub enum Parted {
-    Price(usize),
-    Refused(book::Refusal),
-}
+use book::{Book, Refusal};
 
 // Near, far and flow of a sound book, its numbers loaded into lent slices.
 fn split_loaded(
@@ -89,22 +82,30 @@ fn is_short(book: &[u8], near: &[u8], far: &[u8], flow: &[i32]) -> bool
 }
 
 // Check 8 of a book that reads, then the split.
-fn split_good(book: &[u8], near: &mut [u8], far: &mut [u8], flow: &mut [i32]) -> Parted
+fn split_good(
+    book: &[u8],
+    near: &mut [u8],
+    far: &mut [u8],
+    flow: &mut [i32],
+) -> Result<usize, Refusal>
     requires { Sound book.now }
     ensures { SplitIf (too_short book.now (buffers near.old far.old flow.old)) book.now (buffers near.old far.old flow.old) result (buffers near.new far.new flow.new) }
 {
     if is_short(book, &*near, &*far, &*flow) {
-        return Parted::Refused(book::Refusal::Buffer);
+        return Err(Refusal::Buffer);
     }
-    Parted::Price(split_sound(book, near, far, flow))
+    Ok(split_sound(book, near, far, flow))
 }
 
 // The split, on any bytes: checks 1 to 6 and 8 first. It takes one search for each round of pushes, and one more for the far side.
-pub fn split(book: &[u8], near: &mut [u8], far: &mut [u8], flow: &mut [i32]) -> Parted
+pub fn split(
+    book: &[u8],
+    near: &mut [u8],
+    far: &mut [u8],
+    flow: &mut [i32],
+) -> Result<usize, Refusal>
     ensures { Split book.now (buffers near.old far.old flow.old) result (buffers near.new far.new flow.new) }
 {
-    match book::read(book) {
-        book::Reading::Good(_) => split_good(book, near, far, flow),
-        book::Reading::Refused(why) => Parted::Refused(why),
-    }
+    book::read(book)?;
+    split_good(book, near, far, flow)
 }
