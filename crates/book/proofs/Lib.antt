@@ -6,3 +6,4 @@ pub mod Strides
 pub mod Laid
 pub mod Sound
 pub mod CardLaws
+pub mod Netlists

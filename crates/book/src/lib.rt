@@ -2,12 +2,15 @@
 #![tactic(auto)]
 
 mod checks;
+pub mod netlist;
 
 ghost use Rattle.std.specs.Prelude.{◌≡◌, ℕ, ◌+◌, ◌*◌, ◌<◌, ◌≤◌, length, get_or};
 ghost use Rattle.book.specs.Format.{u16, u32, field, Laid, modules, nets, pins, area, mark, weight, pin_count, pin};
 ghost use Rattle.book.specs.Steps.{step_by, number_in};
 ghost use Rattle.book.specs.Answer.{number_of, place_of};
 ghost use Rattle.book.specs.Checks.{rest_of, read_of};
+
+use netlist::Netlist;
 
 // The counts of a book, and the largest numbers of every book.
 #[derive(Clone, Copy)]

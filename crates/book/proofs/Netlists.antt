@@ -1,0 +1,20 @@
+-- A book that reads is sound, and a sound book reads. Assumes nothing.
+use Rattle.std.specs.Prelude.{◌≡◌, true, Bool, List, ℕ, Result, Ok, Err, is_ok, refl, false}
+use mathlib.Core.Bool.{true≢false}
+use mathlib.Core.Path.{sym}
+use Rattle.book.specs.declared.Book.{Book}
+use Rattle.book.specs.declared.Refusal.{Refusal}
+use Rattle.book.specs.Format.{Laid}
+use Rattle.book.specs.Checks.{read_of}
+use Rattle.book.specs.Sound.{Sound}
+use Rattle.book.proofs.Sound.{sound}
+
+good : (r : Result Book Refusal) → is_ok r ≡ true → (b : Book) × (r ≡ Ok b)
+good (Ok b) e = (b, refl)
+good (Err why) e = absurd (true≢false (sym e))
+
+pub sound_of : (s : List ℕ) → is_ok (read_of s) ≡ true → Sound s
+sound_of s e = let g = good (read_of s) e in sound s g.0 g.1
+
+pub laid_of : (s : List ℕ) → is_ok (read_of s) ≡ true → Laid s
+laid_of s e = (sound_of s e).laid_out

@@ -1,0 +1,83 @@
+// A book that reads, with its numbers. That it reads stands in the type, so that no call asks it again.
+#![tactic(auto, using(crate::proofs::Netlists::laid_of))]
+
+ghost use Rattle.std.specs.Prelude.{◌≡◌, ◌<◌, is_ok, true, IfOk, Err, IfErr};
+ghost use Rattle.book.specs.Format.{modules, nets, pins, area, mark, weight, pin_count, pin};
+ghost use Rattle.book.specs.Checks.{read_of};
+
+use crate::Refusal;
+
+#[derive(Clone, Copy)]
+pub struct Netlist<'a> {
+    pub bytes: &'a [u8],
+    ghost reads: { is_ok (read_of bytes.now) ≡ true },
+}
+
+impl<'a> Netlist<'a> {
+    // The book, where it reads: checks 1 to 6.
+    pub fn new(book: &'a [u8]) -> Result<Netlist<'a>, Refusal>
+        ensures reads { is_ok result ≡ is_ok (read_of book.now) }
+        ensures same { IfOk result (λ n. n.bytes ≡ book.entry) }
+        ensures why { IfErr result (λ why. read_of book.now ≡ Err why) }
+    {
+        crate::read(book)?;
+        Ok(Netlist { bytes: book })
+    }
+
+    // How many modules it has.
+    pub fn modules(self) -> usize
+        ensures { result ≡ modules self.entry.bytes.now }
+    {
+        crate::modules(self.bytes)
+    }
+
+    pub fn nets(self) -> usize
+        ensures { result ≡ nets self.entry.bytes.now }
+    {
+        crate::nets(self.bytes)
+    }
+
+    pub fn pins(self) -> usize
+        ensures { result ≡ pins self.entry.bytes.now }
+    {
+        crate::pins(self.bytes)
+    }
+
+    // The area of module m.
+    pub fn area(self, m: usize) -> usize
+        requires { m < modules self.bytes.now }
+        ensures { (result ≡ area self.entry.bytes.now m) × (result < 65536) }
+    {
+        crate::area(self.bytes, m)
+    }
+
+    pub fn mark(self, m: usize) -> usize
+        requires { m < modules self.bytes.now }
+        ensures { (result ≡ mark self.entry.bytes.now m) × (result < 65536) }
+    {
+        crate::mark(self.bytes, m)
+    }
+
+    // The weight of net n.
+    pub fn weight(self, n: usize) -> usize
+        requires { n < nets self.bytes.now }
+        ensures { (result ≡ weight self.entry.bytes.now n) × (result < 65536) }
+    {
+        crate::weight(self.bytes, n)
+    }
+
+    pub fn pin_count(self, n: usize) -> usize
+        requires { n < nets self.bytes.now }
+        ensures { (result ≡ pin_count self.entry.bytes.now n) × (result < 65536) }
+    {
+        crate::pin_count(self.bytes, n)
+    }
+
+    // The module of pin p.
+    pub fn pin(self, p: usize) -> usize
+        requires { p < pins self.bytes.now }
+        ensures { (result ≡ pin self.entry.bytes.now p) × (result < 65536) }
+    {
+        crate::pin(self.bytes, p)
+    }
+}
