@@ -9,12 +9,12 @@ use Rattle.book.specs.Checks.{read_of}
 use Rattle.book.specs.Sound.{Sound}
 use Rattle.book.proofs.Sound.{sound}
 
-good : (r : Result Book Refusal) → is_ok r ≡ true → (b : Book) × (r ≡ Ok b)
-good (Ok b) e = (b, refl)
-good (Err why) e = absurd (true≢false (sym e))
+pub reads_as : (r : Result Book Refusal) → is_ok r ≡ true → (b : Book) × (r ≡ Ok b)
+reads_as (Ok b) e = (b, refl)
+reads_as (Err why) e = absurd (true≢false (sym e))
 
 pub sound_of : (s : List ℕ) → is_ok (read_of s) ≡ true → Sound s
-sound_of s e = let g = good (read_of s) e in sound s g.0 g.1
+sound_of s e = let g = reads_as (read_of s) e in sound s g.0 g.1
 
 pub laid_of : (s : List ℕ) → is_ok (read_of s) ≡ true → Laid s
 laid_of s e = (sound_of s e).laid_out

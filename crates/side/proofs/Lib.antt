@@ -12,3 +12,4 @@ pub mod Prices
 pub mod Bytewise
 pub mod Moves
 pub mod Changes
+pub mod Sides

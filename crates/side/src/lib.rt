@@ -1,18 +1,19 @@
 // A side: a row of bits in lent bytes, module m at bit m mod 8 of byte m div 8. Its count, its area, its price, and what a move changes.
-#![tactic(auto)]
+#![tactic(auto, using(crate::proofs::Sides::lent, crate::proofs::Sides::sound_netlist))]
 
-ghost use Rattle.std.specs.Prelude.{◌≡◌, cond, ◌*◌, ◌/◌, ◌≤◌, ◌<◌, length, pos, ◌-ℤ◌};
+ghost use Rattle.std.specs.Prelude.{◌≡◌, cond, ◌*◌, ◌/◌, ◌≤◌, ◌<◌, length, pos, ◌-ℤ◌, true, false, IfOk, IfErr, Ok, Err};
 ghost use Rattle.line.specs.Card.{crosses, cost, price, count_to};
 ghost use Rattle.book.specs.Checks.{most_modules};
 ghost use Rattle.book.specs.Format.{modules, nets, area, weight, pin_count};
-ghost use Rattle.book.specs.Sound.{Sound};
+ghost use Rattle.book.specs.declared.Refusal.TheVariants.{Buffer};
 ghost use Rattle.book.specs.Cards.{pin_of, net_of, nets_of, area_of};
 ghost use Rattle.side.specs.Sides.{side_of, bytes_for, SpareClear, spare_test, with_bit, without_bit};
-ghost use Rattle.side.specs.Given.{Lent, AtNet, misplaced, separates, is_short, is_good, given_sound, given};
+ghost use Rattle.side.specs.Given.{AtNet, misplaced, separates, is_short, is_good, given};
 ghost use Rattle.side.specs.Prices.{most_number, most_area, most_price, priced};
 ghost use Rattle.side.specs.Moves.{is_free, change_of, changed_good, changed, apart_of, crosses_with};
 
 use book::Refusal;
+use book::netlist::Netlist;
 
 // A net apart from one module: whether that module has a pin on it, and whether another module's pin is on the side, and off it.
 #[derive(Clone, Copy)]
@@ -20,6 +21,14 @@ struct Apart {
     has: bool,
     on: bool,
     off: bool,
+}
+
+// A side beside its netlist, long enough for its modules: module m at bit m mod 8 of byte m div 8.
+#[derive(Clone, Copy)]
+pub struct Sided<'a> {
+    pub netlist: Netlist<'a>,
+    pub bits: &'a [u8],
+    ghost enough: { bytes_for (modules netlist.bytes.now) ≤ length bits.now },
 }
 
 // Whether module m is on the side.
@@ -62,141 +71,177 @@ fn ones(side: &[u8], n: usize) -> usize
     sum
 }
 
-// How many modules of the book are on a side whose spare bits are 0.
-pub fn count(book: &[u8], side: &[u8]) -> usize
-    requires { Lent book.now side.now × SpareClear side.now (modules book.now) }
-    ensures { result ≡ count_to (side_of side.now) (modules book.now) }
-{
-    ones(side, (book::modules(book) + 7) / 8)
-}
-
-// Whether the spare bits of a side are 0.
-pub fn spare_clear(book: &[u8], side: &[u8]) -> bool
-    requires { Lent book.now side.now }
-    ensures { result ≡ spare_test side.now (modules book.now) }
-{
-    let m = book::modules(book);
-    let j = m % 8;
-    if j == 0 {
-        return true;
+impl<'a> Sided<'a> {
+    // Check 8: the side beside its netlist, where it is as long as the modules need.
+    pub fn new(netlist: Netlist<'a>, bits: &'a [u8]) -> Result<Sided<'a>, Refusal>
+        ensures good { IfOk result (λ s. (s.netlist.bytes ≡ netlist.entry.bytes) × (s.bits ≡ bits.entry) × (is_short netlist.entry.bytes.now bits.now ≡ false)) }
+        ensures short { IfErr result (λ why. (why ≡ Buffer) × (is_short netlist.entry.bytes.now bits.now ≡ true)) }
+    {
+        if is_short(netlist, bits) {
+            return Err(Refusal::Buffer);
+        }
+        Ok(Sided { netlist, bits })
     }
-    let at = m / 8;
-    let b = side[at];
-    b >> j == 0
-}
 
-// Whether module m is a meter off the side, or a maker on it.
-fn misplaced(book: &[u8], side: &[u8], m: usize) -> bool
-    requires { Lent book.now side.now × (m < modules book.now) }
-    ensures { result ≡ misplaced book.now (side_of side.now) m }
-{
-    let mark = book::mark(book, m);
-    let on = inside(side, m);
-    ((mark == 1) & !on) | ((mark == 2) & on)
-}
-
-// Whether a side holds every meter module and no maker module.
-pub fn separates(book: &[u8], side: &[u8]) -> bool
-    requires { Lent book.now side.now }
-    ensures { result ≡ separates book.now (side_of side.now) }
-{
-    (0..book::modules(book)).all(|m| !misplaced(book, side, m))
-}
-
-// What module m adds to the area of a side: its own area where it is on it.
-fn area_at(book: &[u8], side: &[u8], m: usize) -> usize
-    requires { Lent book.now side.now × (m < modules book.now) }
-    ensures { (result ≡ cond (side_of side.now m) (area book.now m) 0) × (result ≤ most_number) }
-{
-    if inside(side, m) {
-        book::area(book, m)
-    } else {
-        0
+    // How many modules of the book are on a side whose spare bits are 0.
+    pub fn count(self) -> usize
+        requires { SpareClear self.bits.now (modules self.netlist.bytes.now) }
+        ensures { result ≡ count_to (side_of self.entry.bits.now) (modules self.entry.netlist.bytes.now) }
+    {
+        ones(self.bits, (self.netlist.modules() + 7) / 8)
     }
-}
 
-// The area of a side.
-pub fn area(book: &[u8], side: &[u8]) -> usize
-    requires { Lent book.now side.now }
-    ensures { (result ≡ area_of book.now (side_of side.now)) × (result ≤ most_area) }
-{
-    let mut sum = 0;
-    for m in 0..book::modules(book) {
-        sum += area_at(book, side, m);
+    // Whether the spare bits of a side are 0.
+    pub fn spare_clear(self) -> bool
+        ensures { result ≡ spare_test self.entry.bits.now (modules self.entry.netlist.bytes.now) }
+    {
+        let m = self.netlist.modules();
+        let j = m % 8;
+        if j == 0 {
+            return true;
+        }
+        let at = m / 8;
+        let b = self.bits[at];
+        b >> j == 0
     }
-    sum
+
+    // Whether module m is a meter off the side, or a maker on it.
+    fn misplaced(self, m: usize) -> bool
+        requires { m < modules self.netlist.bytes.now }
+        ensures { result ≡ misplaced self.entry.netlist.bytes.now (side_of self.entry.bits.now) m }
+    {
+        let mark = self.netlist.mark(m);
+        let on = inside(self.bits, m);
+        ((mark == 1) & !on) | ((mark == 2) & on)
+    }
+
+    // Whether a side holds every meter module and no maker module.
+    pub fn separates(self) -> bool
+        ensures { result ≡ separates self.entry.netlist.bytes.now (side_of self.entry.bits.now) }
+    {
+        (0..self.netlist.modules()).all(|m| !self.misplaced(m))
+    }
+
+    // What module m adds to the area of a side: its own area where it is on it.
+    fn area_at(self, m: usize) -> usize
+        requires { m < modules self.netlist.bytes.now }
+        ensures { (result ≡ cond (side_of self.entry.bits.now m) (area self.entry.netlist.bytes.now m) 0) × (result ≤ most_number) }
+    {
+        if inside(self.bits, m) {
+            self.netlist.area(m)
+        } else {
+            0
+        }
+    }
+
+    // The area of a side.
+    pub fn area(self) -> usize
+        ensures { (result ≡ area_of self.entry.netlist.bytes.now (side_of self.entry.bits.now)) × (result ≤ most_area) }
+    {
+        let mut sum = 0;
+        for m in 0..self.netlist.modules() {
+            sum += self.area_at(m);
+        }
+        sum
+    }
+
+    // Whether net n has a pin on the side and a pin off it.
+    pub fn crosses(self, n: usize, first: usize) -> bool
+        requires { AtNet self.netlist.bytes.now n first }
+        ensures { result ≡ crosses (side_of self.entry.bits.now) (net_of self.entry.netlist.bytes.now n) }
+    {
+        let mut on = false;
+        let mut off = false;
+        for j in 0..self.netlist.pin_count(n) {
+            let b = inside(self.bits, pin_of(self.netlist, n, first, j));
+            on = on | b;
+            off = off | !b;
+        }
+        on & off
+    }
+
+    // What net n costs: its weight where it crosses.
+    fn cost(self, n: usize, first: usize) -> usize
+        requires { AtNet self.netlist.bytes.now n first }
+        ensures { (result ≡ cost (side_of self.entry.bits.now) (net_of self.entry.netlist.bytes.now n)) × (result ≤ most_number) }
+    {
+        weigh(self.netlist, n, self.crosses(n, first))
+    }
+
+    // The price of a side: each net that crosses, once.
+    pub fn price(self) -> usize
+        ensures { (result ≡ price (nets_of self.entry.netlist.bytes.now) (side_of self.entry.bits.now)) × (result ≤ most_price) }
+    {
+        let mut sum = 0;
+        let mut first = 0;
+        for n in 0..self.netlist.nets() {
+            sum += self.cost(n, first);
+            first += self.netlist.pin_count(n);
+        }
+        sum
+    }
+
+    // Net n apart from module m.
+    fn apart_from(self, n: usize, first: usize, m: usize) -> Apart
+        requires { AtNet self.netlist.bytes.now n first }
+        ensures { result ≡ apart_of (side_of self.entry.bits.now) m (net_of self.entry.netlist.bytes.now n) }
+    {
+        let mut has = false;
+        let mut on = false;
+        let mut off = false;
+        for j in 0..self.netlist.pin_count(n) {
+            let p = pin_of(self.netlist, n, first, j);
+            let b = inside(self.bits, p);
+            let own = p == m;
+            has = has | own;
+            on = on | (b & !own);
+            off = off | (!b & !own);
+        }
+        Apart { has, on, off }
+    }
+
+    // The price after module m is moved to the other side, less the price before. Each pin is read once, and only a net with a pin of m adds to either sum.
+    pub fn change(self, m: usize) -> i64
+        requires { m < modules self.netlist.bytes.now }
+        ensures { result ≡ change_of self.entry.netlist.bytes.now (side_of self.entry.bits.now) m }
+    {
+        let on = inside(self.bits, m);
+        let mut gained = 0;
+        let mut lost = 0;
+        let mut first = 0;
+        for n in 0..self.netlist.nets() {
+            let a = self.apart_from(n, first, m);
+            let before = crosses_with(a, on);
+            let after = crosses_with(a, !on);
+            gained += weigh(self.netlist, n, after & !before);
+            lost += weigh(self.netlist, n, before & !after);
+            first += self.netlist.pin_count(n);
+        }
+        less(gained, lost)
+    }
+
+    // Check 9 passes: the side holds every meter module and no maker module, and its spare bits are 0.
+    pub fn is_good(self) -> bool
+        ensures { result ≡ is_good self.entry.netlist.bytes.now self.entry.bits.now }
+    {
+        self.separates() & self.spare_clear()
+    }
 }
 
 // The module of pin j of net n.
-pub fn pin_of(book: &[u8], n: usize, first: usize, j: usize) -> usize
-    requires { Sound book.now × AtNet book.now n first × (j < pin_count book.now n) }
-    ensures { (result ≡ pin_of book.now n j) × (result < modules book.now) }
+pub fn pin_of(netlist: Netlist<'_>, n: usize, first: usize, j: usize) -> usize
+    requires { AtNet netlist.bytes.now n first × (j < pin_count netlist.bytes.now n) }
+    ensures { (result ≡ pin_of netlist.entry.bytes.now n j) × (result < modules netlist.entry.bytes.now) }
 {
-    book::pin(book, first + j)
-}
-
-// Whether net n has a pin on the side and a pin off it.
-pub fn crosses(book: &[u8], side: &[u8], n: usize, first: usize) -> bool
-    requires { Lent book.now side.now × AtNet book.now n first }
-    ensures { result ≡ crosses (side_of side.now) (net_of book.now n) }
-{
-    let mut on = false;
-    let mut off = false;
-    for j in 0..book::pin_count(book, n) {
-        let b = inside(side, pin_of(book, n, first, j));
-        on = on | b;
-        off = off | !b;
-    }
-    on & off
+    netlist.pin(first + j)
 }
 
 // The weight of net n where it counts, and 0 where it does not.
-fn weigh(book: &[u8], n: usize, counts: bool) -> usize
-    requires { Sound book.now × (n < nets book.now) }
-    ensures { (result ≡ cond counts (weight book.now n) 0) × (result ≤ most_number) }
+fn weigh(netlist: Netlist<'_>, n: usize, counts: bool) -> usize
+    requires { n < nets netlist.bytes.now }
+    ensures { (result ≡ cond counts (weight netlist.entry.bytes.now n) 0) × (result ≤ most_number) }
 {
-    if counts { book::weight(book, n) } else { 0 }
-}
-
-// What net n costs: its weight where it crosses.
-fn cost(book: &[u8], side: &[u8], n: usize, first: usize) -> usize
-    requires { Lent book.now side.now × AtNet book.now n first }
-    ensures { (result ≡ cost (side_of side.now) (net_of book.now n)) × (result ≤ most_number) }
-{
-    weigh(book, n, crosses(book, side, n, first))
-}
-
-// The price of a side: each net that crosses, once.
-pub fn price_of(book: &[u8], side: &[u8]) -> usize
-    requires { Lent book.now side.now }
-    ensures { (result ≡ price (nets_of book.now) (side_of side.now)) × (result ≤ most_price) }
-{
-    let mut sum = 0;
-    let mut first = 0;
-    for n in 0..book::nets(book) {
-        sum += cost(book, side, n, first);
-        first += book::pin_count(book, n);
-    }
-    sum
-}
-
-// Net n apart from module m.
-fn apart_from(book: &[u8], side: &[u8], n: usize, first: usize, m: usize) -> Apart
-    requires { Lent book.now side.now × AtNet book.now n first }
-    ensures { result ≡ apart_of (side_of side.now) m (net_of book.now n) }
-{
-    let mut has = false;
-    let mut on = false;
-    let mut off = false;
-    for j in 0..book::pin_count(book, n) {
-        let p = pin_of(book, n, first, j);
-        let b = inside(side, p);
-        let own = p == m;
-        has = has | own;
-        on = on | (b & !own);
-        off = off | (!b & !own);
-    }
-    Apart { has, on, off }
+    if counts { netlist.weight(n) } else { 0 }
 }
 
 // Whether a net crosses with the module it was taken apart from on the side, or off it.
@@ -214,99 +259,51 @@ fn less(gained: usize, lost: usize) -> i64
     gained as i64 - lost as i64
 }
 
-// The price after module m is moved to the other side, less the price before. Each pin is read once, and only a net with a pin of m adds to either sum.
-pub fn change_of(book: &[u8], side: &[u8], m: usize) -> i64
-    requires { Lent book.now side.now × (m < modules book.now) }
-    ensures { result ≡ change_of book.now (side_of side.now) m }
-{
-    let on = inside(side, m);
-    let mut gained = 0;
-    let mut lost = 0;
-    let mut first = 0;
-    for n in 0..book::nets(book) {
-        let a = apart_from(book, side, n, first, m);
-        let before = crosses_with(a, on);
-        let after = crosses_with(a, !on);
-        gained += weigh(book, n, after & !before);
-        lost += weigh(book, n, before & !after);
-        first += book::pin_count(book, n);
-    }
-    less(gained, lost)
-}
-
 // Check 8: the side is shorter than its modules need.
-pub fn is_short(book: &[u8], side: &[u8]) -> bool
-    requires { Sound book.now }
-    ensures { result ≡ is_short book.now side.now }
+pub fn is_short(netlist: Netlist<'_>, side: &[u8]) -> bool
+    ensures { result ≡ is_short netlist.entry.bytes.now side.now }
 {
-    side.len() < (book::modules(book) + 7) / 8
+    side.len() < (netlist.modules() + 7) / 8
 }
 
-// Check 9 passes: the side holds every meter module and no maker module, and its spare bits are 0.
-pub fn is_good(book: &[u8], side: &[u8]) -> bool
-    requires { Lent book.now side.now }
-    ensures { result ≡ is_good book.now side.now }
+// Whether m is a free module of the book.
+pub fn is_free(netlist: Netlist<'_>, m: usize) -> bool
+    ensures { result ≡ is_free netlist.entry.bytes.now m }
 {
-    separates(book, side) & spare_clear(book, side)
-}
-
-// Checks 8 and 9 of a book that reads.
-fn check_sound(book: &[u8], side: &[u8]) -> Result<(), Refusal>
-    requires { Sound book.now }
-    ensures { result ≡ given_sound book.now side.now }
-{
-    if is_short(book, side) {
-        return Err(Refusal::Buffer);
+    if m < netlist.modules() {
+        netlist.mark(m) == 0
+    } else {
+        false
     }
-    if !is_good(book, side) {
+}
+
+// Checks 1 to 6, 8 and 9, on any bytes: the side beside its netlist.
+fn check<'a>(book: &'a [u8], side: &'a [u8]) -> Result<Sided<'a>, Refusal>
+    ensures good { IfOk result (λ s. (s.netlist.bytes ≡ book.entry) × (s.bits ≡ side.entry) × (given book.now side.now ≡ Ok tt)) }
+    ensures why { IfErr result (λ why. given book.now side.now ≡ Err why) }
+{
+    let sided = Sided::new(Netlist::new(book)?, side)?;
+    if !sided.is_good() {
         return Err(Refusal::Side);
     }
-    Ok(())
-}
-
-// Checks 1 to 6, 8 and 9, on any bytes.
-fn check(book: &[u8], side: &[u8]) -> Result<(), Refusal>
-    ensures { result ≡ given book.now side.now }
-{
-    book::read(book)?;
-    check_sound(book, side)
+    Ok(sided)
 }
 
 // The price of a side, on any bytes: checks 1 to 6, 8 and 9 first.
 pub fn price(book: &[u8], side: &[u8]) -> Result<usize, Refusal>
     ensures { result ≡ priced book.now side.now }
 {
-    check(book, side)?;
-    Ok(price_of(book, side))
-}
-
-// Whether m is a free module of the book.
-pub fn is_free(book: &[u8], m: usize) -> bool
-    requires { Sound book.now }
-    ensures { result ≡ is_free book.now m }
-{
-    if m < book::modules(book) {
-        book::mark(book, m) == 0
-    } else {
-        false
-    }
-}
-
-// Check 10 on a good side, and the change.
-fn change_good(book: &[u8], side: &[u8], m: usize) -> Result<i64, Refusal>
-    requires { Lent book.now side.now }
-    ensures { result ≡ changed_good book.now side.now m }
-{
-    if !is_free(book, m) {
-        return Err(Refusal::Move);
-    }
-    Ok(change_of(book, side, m))
+    let sided = check(book, side)?;
+    Ok(sided.price())
 }
 
 // What moving one module to the other side changes in the price, on any bytes: checks 1 to 6 and 8 to 10 first.
 pub fn change(book: &[u8], side: &[u8], m: u32) -> Result<i64, Refusal>
     ensures { result ≡ changed book.now side.now m }
 {
-    check(book, side)?;
-    change_good(book, side, m as usize)
+    let sided = check(book, side)?;
+    if !is_free(sided.netlist, m as usize) {
+        return Err(Refusal::Move);
+    }
+    Ok(sided.change(m as usize))
 }

@@ -7,8 +7,8 @@ use Rattle.side.proofs.is_free.Goals as goal
 
 pub returns-then-m-modules : goal.returns-then-m-modules
 unfolding is_free
-returns-then-m-modules c = rw (lt-ltb c.args.m (modules c.args.book.now) (omega arith), c.mark.ensures.0)
+returns-then-m-modules c = rw (lt-ltb c.args.m (modules c.args.netlist.bytes.now) (omega arith), c.mark.ensures.0)
 
 pub returns-else-m-modules : goal.returns-else-m-modules
 unfolding is_free
-returns-else-m-modules c = rw (le-ltb c.args.m (modules c.args.book.now) (omega arith))
+returns-else-m-modules c = rw (le-ltb c.args.m (modules c.args.netlist.bytes.now) (omega arith))

@@ -1,7 +1,0 @@
--- `side::misplaced` meets its contract. Assumes nothing.
-use Rattle.side.specs.Given.{misplaced}
-use Rattle.side.proofs.misplaced.Goals as goal
-
-pub returns : goal.returns
-unfolding misplaced
-returns c = rw (c.mark-mark.ensures.0, c.inside-on.ensures)
