@@ -7,3 +7,4 @@ pub mod Fairness
 pub mod Certificates
 pub mod Unread
 pub mod Answers
+pub mod Flows

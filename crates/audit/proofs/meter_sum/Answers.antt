@@ -17,4 +17,4 @@ loop-m-preserved c =
 pub returns : goal.returns
 returns c =
     let a = c.args in
-    c.loop-m.invariant.0 ∙ ap (meters_to a.book.now a.sums.now) (omega arith)
+    c.loop-m.invariant.0 ∙ ap (meters_to a.netlist.bytes.now a.sums.now) (omega arith)

@@ -8,4 +8,4 @@ use Rattle.audit.proofs.meter_sum.Given as goal
 
 abbrev pub invariant-loop-m : goal.invariant-loop-m
 invariant-loop-m l =
-    (l.sum ≡ meters_to l.book l.sums l.m) × (l.sum ≤ most_sent * most_pins * l.m)
+    (l.sum ≡ meters_to l.netlist.bytes.now l.sums l.m) × (l.sum ≤ most_sent * most_pins * l.m)

@@ -1,7 +1,7 @@
 -- `audit::rules` meets its contract, by each way out. Assumes nothing.
 use mathlib.Core.Path.{sym, ◌∙◌}
 use Rattle.audit.specs.Rules.{ruled_of}
-use Rattle.audit.proofs.rules.Goals as goal
+use Rattle.audit.proofs.Flowed.rules.Goals as goal
 
 pub returns-in-Some : goal.returns-in-Some
 unfolding ruled_of

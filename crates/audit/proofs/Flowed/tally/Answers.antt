@@ -4,22 +4,23 @@ use native.Mathlib.Omega.{arith}
 use Rattle.line.specs.Flow.{sent, taken}
 use Rattle.book.specs.Format.{pins}
 use Rattle.audit.proofs.Tallied.{room, tally_none, tally_more}
-use Rattle.audit.proofs.tally.Goals as goal
+use Rattle.audit.proofs.Flows.{sound_netlist}
+use Rattle.audit.proofs.Flowed.tally.Goals as goal
 
 pub loop-p-init : goal.loop-p-init
-loop-p-init c = (refl, refl, tally_none _ _ sent _ c.requires.1, tally_none _ _ taken _ c.requires.2)
+loop-p-init c = (refl, refl, tally_none _ _ sent _ c.requires.0, tally_none _ _ taken _ c.requires.1)
 
 pub add-requires : goal.add-requires
 add-requires c =
-    let r = room _ _ sent c.requires.0.sound c.loop-p.p _ c.loop-p.invariant.2 (omega arith) _ c.pin-m.ensures.0 in (r.0, r.1, c.sent_at.ensures.1)
+    let r = room _ _ sent (sound_netlist c.args.self.netlist) c.loop-p.p _ c.loop-p.invariant.2 (omega arith) _ c.pin-m.ensures.0 in (r.0, r.1, c.sent_at.ensures.1)
 
 pub add-requires-in-loop-p : goal.add-requires-in-loop-p
 add-requires-in-loop-p c =
-    let r = room _ _ taken c.requires.0.sound c.loop-p.p _ c.loop-p.invariant.3 (omega arith) _ c.pin-m.ensures.0 in (r.0, r.1, c.taken_at.ensures.1)
+    let r = room _ _ taken (sound_netlist c.args.self.netlist) c.loop-p.p _ c.loop-p.invariant.3 (omega arith) _ c.pin-m.ensures.0 in (r.0, r.1, c.taken_at.ensures.1)
 
 pub loop-p-preserved : goal.loop-p-preserved
 loop-p-preserved c =
-    let h = c.requires.0.sound in
+    let h = (sound_netlist c.args.self.netlist) in
     let i = c.loop-p in
     let m = c.pin-m in
     let x = c.sent_at in
@@ -36,5 +37,5 @@ shape_of-takes c = c.loop-p.invariant.1
 
 pub returns : goal.returns
 returns c =
-    let e : c.loop-p.p ≡ pins c.args.book.now = omega arith in
+    let e : c.loop-p.p ≡ pins c.args.self.netlist.bytes.now = omega arith in
     rw (← e) (c.loop-p.invariant.2, c.loop-p.invariant.3)

@@ -2,8 +2,8 @@
 use Prim.Native.Nat.{◌*◌, ◌≤◌}
 use mathlib.Core.Path.{◌≡◌}
 use Rattle.audit.specs.Rules.{most_sent, net_sent_to, net_taken_to}
-use Rattle.audit.proofs.net_breaks.Given as goal
+use Rattle.audit.proofs.Flowed.net_breaks.Given as goal
 
 abbrev pub invariant-loop-j : goal.invariant-loop-j
 invariant-loop-j l =
-    (l.sent ≡ net_sent_to l.book l.flow l.n l.j) × (l.taken ≡ net_taken_to l.book l.flow l.n l.j) × (l.sent ≤ most_sent * l.j) × (l.taken ≤ most_sent * l.j)
+    (l.sent ≡ net_sent_to l.self.netlist.bytes.now l.self.flow.now l.n l.j) × (l.taken ≡ net_taken_to l.self.netlist.bytes.now l.self.flow.now l.n l.j) × (l.sent ≤ most_sent * l.j) × (l.taken ≤ most_sent * l.j)

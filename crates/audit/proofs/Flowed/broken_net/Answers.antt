@@ -6,7 +6,7 @@ use Rattle.book.proofs.Firsts.{lowest_more, lowest_found, lowest_ended}
 use Rattle.book.specs.Format.{first_pin}
 use Rattle.book.specs.First.{first, lowest}
 use Rattle.audit.specs.Rules.{check11}
-use Rattle.audit.proofs.broken_net.Goals as goal
+use Rattle.audit.proofs.Flowed.broken_net.Goals as goal
 
 pub loop-n-init : goal.loop-n-init
 unfolding lowest first first_pin
@@ -19,7 +19,7 @@ returns-then-net_breaks c = sym (lowest_found _ c.loop-n.n _ c.loop-n.invariant.
 pub loop-n-preserved : goal.loop-n-preserved
 loop-n-preserved c = (
   lowest_more _ c.loop-n.n c.loop-n.invariant.0 (sym c.net_breaks.ensures ∙ c.if-net_breaks.false),
-  omega (arith, first_pin-suc c.args.book.now c.loop-n.n),
+  omega (arith, first_pin-suc c.args.self.netlist.bytes.now c.loop-n.n),
   omega arith,
 )
 

@@ -5,8 +5,8 @@ use mathlib.Core.Path.{◌≡◌}
 use Rattle.book.specs.Format.{first_pin}
 use Rattle.book.specs.First.{lowest}
 use Rattle.audit.specs.Rules.{bad_net_flow}
-use Rattle.audit.proofs.broken_net.Given as goal
+use Rattle.audit.proofs.Flowed.broken_net.Given as goal
 
 abbrev pub invariant-loop-n : goal.invariant-loop-n
 invariant-loop-n l =
-    (lowest (bad_net_flow l.book l.flow) l.n ≡ None) × (l.first ≡ first_pin l.book l.n) × (l.first ≤ 65536 * l.n)
+    (lowest (bad_net_flow l.self.netlist.bytes.now l.self.flow.now) l.n ≡ None) × (l.first ≡ first_pin l.self.netlist.bytes.now l.n) × (l.first ≤ 65536 * l.n)

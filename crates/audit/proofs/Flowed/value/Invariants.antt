@@ -4,8 +4,8 @@ use mathlib.Core.Path.{◌≡◌}
 use Rattle.line.specs.Flow.{meters}
 use Rattle.book.specs.Cards.{card_of}
 use Rattle.audit.specs.Rules.{most_sent, sent_to, taken_to}
-use Rattle.audit.proofs.value_of.Given as goal
+use Rattle.audit.proofs.Flowed.value.Given as goal
 
 abbrev pub invariant-loop-p : goal.invariant-loop-p
 invariant-loop-p l =
-    (l.sent ≡ sent_to l.book l.flow (meters (card_of l.book)) l.p) × (l.taken ≡ taken_to l.book l.flow (meters (card_of l.book)) l.p) × (l.sent ≤ most_sent * l.p) × (l.taken ≤ most_sent * l.p)
+    (l.sent ≡ sent_to l.self.netlist.bytes.now l.self.flow.now (meters (card_of l.self.netlist.bytes.now)) l.p) × (l.taken ≡ taken_to l.self.netlist.bytes.now l.self.flow.now (meters (card_of l.self.netlist.bytes.now)) l.p) × (l.sent ≤ most_sent * l.p) × (l.taken ≤ most_sent * l.p)
