@@ -1,6 +1,6 @@
 -- A slice filled from the front, place after place, becomes the list of what was put there. Assumes nothing.
-use Rattle.std.specs.Prelude.{◌≡◌, ℕ, zero, suc, ◌+◌, ◌<◌, List, [], ◌∷◌, ◌++◌, length, take, set}
-use mathlib.Core.Path.{refl, sym, ap, ◌∙◌}
+use Rattle.std.specs.Prelude.{◌≡◌, ℕ, zero, suc, ◌+◌, ◌<◌, List, [], ◌∷◌, ◌++◌, length, take, set, slice_get, IfSome}
+use mathlib.Core.Path.{refl, sym, ap, ap₂, ◌∙◌}
 use native.Mathlib.Numerals.{add-one}
 use native.Mathlib.Omega.{arith}
 use lib.Seq.{take-suc-set, take_all}
@@ -24,3 +24,12 @@ module _ {A : Type 0} where
   -- every place
   pub filled : (f : ℕ → A) (l : List A) (i n : ℕ) → take i l ≡ listed f i → length l ≡ n → i ≡ n → l ≡ listed f n
   filled f l i n h k e = sym (take_all i l (omega arith)) ∙ h ∙ ap (listed f) e
+
+  -- what stands at each place makes the list
+  each_place : (f : ℕ → A) (P : ℕ → A → Type 0) (l : List A) → ((i : ℕ) (x : A) → P i x → x ≡ f i) → ((i : ℕ) → IfSome (slice_get l i) (P i)) → l ≡ listed f (length l)
+  unfolding listed
+  each_place f P [] says h = refl
+  each_place f P (x ∷ l) says h = ap₂ (λ (y : A) (ys : List A). y ∷ ys) (says 0 x (h 0)) (each_place (λ i. f (suc i)) (λ i. P (suc i)) l (λ i. says (suc i)) (λ i. h (suc i)))
+
+  pub filled_by : (f : ℕ → A) (P : ℕ → A → Type 0) (l : List A) (n : ℕ) → ((i : ℕ) (x : A) → P i x → x ≡ f i) → ((i : ℕ) → IfSome (slice_get l i) (P i)) → length l ≡ n → l ≡ listed f n
+  filled_by f P l n says h e = each_place f P l says h ∙ ap (listed f) e

@@ -3,16 +3,13 @@ use Rattle.std.specs.Prelude.{◌≡◌, ℕ, ◌+◌, ◌-◌, ◌/◌, ◌%◌
 use mathlib.Core.Path.{refl, sym, ap, ◌∙◌, subst}
 use native.Mathlib.Omega.{arith}
 use native.Mathlib.Decide.{ℕ_discrete}
-use native.Mathlib.Nat.{not-suc-le-zero, zero-div}
+use native.Mathlib.Nat.{zero-div}
 use lib.ListN.{length-set}
 use lib.Seq.{get_or-set_same, get_or-set_other, drop-set-lt, drop-drop}
 use borrow.Author.Tests.{eqb-true, eqb-false}
 use Rattle.side.specs.Sides.{bit_at, side_of, bytes_for, SpareClear, with_bit}
 use Rattle.side.proofs.Puts.{put_on, put_others}
 use Rattle.split.specs.Writes.{opened, wrote, picked_of, Written}
-
-pub written_start : (how : List ℕ) (reached : Bool) (l : List ℕ) → Written how reached 0 l l
-written_start how reached l = record { long = refl; side = λ k i. absurd (not-suc-le-zero i); spare = λ k i j. absurd (omega arith); tail = refl }
 
 -- a row whose bits below m are those of l, and whose other bits up to the end of m's byte are 0
 record Opens (m : ℕ) (l k : List ℕ) : Type 0 where

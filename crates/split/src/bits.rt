@@ -29,7 +29,7 @@ fn write_module(out: &mut [u8], m: usize, on: bool)
 fn picked(x: u64, reached: bool) -> bool
     ensures { result ≡ picked_of reached x }
 {
-    if reached { x > 0 } else { !(x > 0) }
+    (x > 0) == reached
 }
 
 // The side of the modules that a search reached, or of those that it did not.
@@ -37,9 +37,7 @@ pub fn write_side(how: &[u64], reached: bool, out: &mut [u8])
     requires { bytes_for (length how.now) ≤ length out.old }
     ensures { Written how.now reached (length how.now) out.old out.new }
 {
-    let mut m: usize = 0;
-    while m < how.len() {
-        write_module(&mut *out, m, picked(how[m], reached));
-        m += 1;
+    for (m, &x) in how.iter().enumerate() {
+        write_module(&mut *out, m, picked(x, reached));
     }
 }

@@ -4,59 +4,32 @@
 pub mod bits;
 pub mod engine;
 pub mod load;
+mod numbers;
 
-ghost use Rattle.std.specs.Prelude.{◌≡◌, ◌+◌, length};
+ghost use Rattle.std.specs.Prelude.{◌≡◌, length};
 ghost use Rattle.line.specs.Card.{price};
-ghost use Rattle.book.specs.Format.{modules, nets, pins};
+ghost use Rattle.book.specs.Format.{pins};
 ghost use Rattle.book.specs.Cards.{nets_of, card_of};
 ghost use Rattle.book.specs.Sound.{Sound};
 ghost use Rattle.side.specs.Sides.{side_of};
 ghost use Rattle.split.specs.Solved.{Solved};
 ghost use Rattle.split.specs.Splits.{buffers, Room, Holds, SplitIf, Split, too_short};
 
-use book::{Book, Refusal};
+use crate::numbers::Numbers;
+use book::Refusal;
 
-// Near, far and flow of a sound book, its numbers loaded into lent slices.
-fn split_loaded(
-    book: &[u8],
-    first: &mut [u16],
-    mods: &mut [u16],
-    weight: &mut [u16],
-    mark: &mut [u8],
-    near: &mut [u8],
-    far: &mut [u8],
-    flow: &mut [i32],
-)
-    requires { Room book.now near.old far.old flow.old × (length first.old ≡ nets book.now + 1) × (length mods.old ≡ pins book.now) × (length weight.old ≡ nets book.now) × (length mark.old ≡ modules book.now) × (length flow.old ≡ pins book.now) }
-    ensures { Solved (card_of book.now) near.old far.old near.new far.new flow.new }
-{
-    load::firsts(book, &mut *first);
-    load::mods(book, &mut *mods);
-    load::weights(book, &mut *weight);
-    load::marks(book, &mut *mark);
-    flow::engine::still(&mut *flow);
-    engine::solve(&*first, &*mods, &*weight, &*mark, near, far, flow);
-}
-
-// The same with slices of its own; the price is the value of the flow.
+// The price is the value of the flow.
 fn split_exact(book: &[u8], near: &mut [u8], far: &mut [u8], flow: &mut [i32]) -> usize
     requires { Room book.now near.old far.old flow.old × (length flow.old ≡ pins book.now) }
     ensures { Solved (card_of book.now) near.old far.old near.new far.new flow.new × (result ≡ price (nets_of book.now) (side_of near.new)) }
 {
-    let m = book::modules(book);
-    let n = book::nets(book);
-    let p = book::pins(book);
-    let end = n + 1;
-    let mut first: [u16; Book::NETS + 1] = [0; Book::NETS + 1];
-    let mut mods: [u16; Book::PINS] = [0; Book::PINS];
-    let mut weight: [u16; Book::NETS] = [0; Book::NETS];
-    let mut mark: [u8; Book::MODULES] = [0; Book::MODULES];
-    split_loaded(
-        book,
-        &mut first[..end],
-        &mut mods[..p],
-        &mut weight[..n],
-        &mut mark[..m],
+    let numbers = Numbers::of(book);
+    flow::engine::still(&mut *flow);
+    engine::solve(
+        numbers.first(),
+        numbers.mods(),
+        numbers.weight(),
+        numbers.mark(),
         near,
         far,
         &mut *flow,

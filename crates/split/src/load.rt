@@ -1,8 +1,18 @@
 // A book's numbers as the engine's slices: the first pin of each net and the end of the last, the module of each pin, the weights, the marks.
-ghost use Rattle.std.specs.Prelude.{◌≡◌, ◌+◌, ◌<◌, length};
+ghost use Rattle.std.specs.Prelude.{◌≡◌, ℕ, ◌+◌, ◌<◌, length, slice_get, IfSome};
 ghost use Rattle.book.specs.Format.{modules, nets, pins, mark, weight, pin, first_pin};
 ghost use Rattle.book.specs.Listed.{listed};
 ghost use Rattle.book.specs.Sound.{Sound};
+
+// Fills each place with what `at` gives for its index.
+fn fill_by<T: Copy, F: Fn(usize) -> T>(out: &mut [T], at: F)
+    requires { (i : ℕ) → i < length out.old → F.pre at i }
+    ensures { (i : ℕ) → IfSome (slice_get out.new i) (F.post at i) }
+{
+    for (i, place) in out.iter_mut().enumerate() {
+        *place = at(i);
+    }
+}
 
 // Where the pins of each net begin, and where those of the last end.
 pub fn firsts(book: &[u8], out: &mut [u16])
@@ -11,13 +21,11 @@ pub fn firsts(book: &[u8], out: &mut [u16])
 {
     let count = book::nets(book);
     let mut sum: usize = 0;
-    let mut n: usize = 0;
-    while n < count {
-        out[n] = flow::num::narrow(sum);
+    for n in 0..count {
+        out[n] = sum as u16;
         sum += book::pin_count(book, n);
-        n += 1;
     }
-    out[count] = flow::num::narrow(sum);
+    out[count] = sum as u16;
 }
 
 // The module of each pin.
@@ -25,11 +33,7 @@ pub fn mods(book: &[u8], out: &mut [u16])
     requires { Sound book.now × (length out.old ≡ pins book.now) }
     ensures { out.new ≡ listed (pin book.now) (pins book.now) }
 {
-    let mut p: usize = 0;
-    while p < out.len() {
-        out[p] = flow::num::narrow(book::pin(book, p));
-        p += 1;
-    }
+    fill_by(out, |p| book::pin(book, p) as u16);
 }
 
 // The weight of each net.
@@ -37,17 +41,7 @@ pub fn weights(book: &[u8], out: &mut [u16])
     requires { Sound book.now × (length out.old ≡ nets book.now) }
     ensures { out.new ≡ listed (weight book.now) (nets book.now) }
 {
-    let mut n: usize = 0;
-    while n < out.len() {
-        out[n] = flow::num::narrow(book::weight(book, n));
-        n += 1;
-    }
-}
-
-fn byte(x: usize) -> u8
-    ensures { x < 256 → result ≡ x }
-{
-    (x % 256) as u8
+    fill_by(out, |n| book::weight(book, n) as u16);
 }
 
 // The mark of each module.
@@ -55,9 +49,5 @@ pub fn marks(book: &[u8], out: &mut [u8])
     requires { Sound book.now × (length out.old ≡ modules book.now) }
     ensures { out.new ≡ listed (mark book.now) (modules book.now) }
 {
-    let mut m: usize = 0;
-    while m < out.len() {
-        out[m] = byte(book::mark(book, m));
-        m += 1;
-    }
+    fill_by(out, |m| book::mark(book, m) as u8);
 }

@@ -1,33 +1,31 @@
+use Rattle.split.proofs.Loaded.{slices_loaded, begins_loaded, solved_loaded}
 use Rattle.split.proofs.Held.{solved_lent, solved_price}
-use Rattle.book.specs.Checks.{most_modules, most_nets, most_pins}
-use lib.Seq.{length-take-le}
-use mathlib.Core.Path.{sym, ap, ◌∙◌}
-use Rattle.std.specs.Prelude.{ℕ, ◌+◌, ◌≤◌}
+use Rattle.book.specs.Cards.{card_of}
+use Rattle.split.specs.Solved.{Solved}
+use mathlib.Core.Path.{◌∙◌}
 use native.Mathlib.Omega.{arith}
 use Rattle.split.proofs.split_exact.Goals as goal
+use Rattle.split.proofs.split_exact.Goals.{After-solve}
 
-pub slice_bounds-split_loaded-end : goal.slice_bounds-split_loaded-end
-slice_bounds-split_loaded-end c = sym (let k : c.nets-n.result + 1 ≤ most_nets + 1 = omega (arith, c.nets-n.ensures, c.requires.0.sound.few_nets) in length-take-le _ _ k)
+pub solve-requires : goal.solve-requires
+solve-requires c =
+    let s = c.args.book.now in
+    let p = c.requires.0 in
+    let n = c.of-numbers.ensures in
+    let mods = c.mods.ensures ∙ n.mods in
+    let mark = c.mark.ensures ∙ n.mark in (
+      slices_loaded s p.sound _ _ _ _ (c.first.ensures ∙ n.first) mods (c.weight.ensures ∙ n.weight) mark,
+      begins_loaded s p.sound _ _ _ _ _ _ _ mods mark c.still.ensures (c.still.auto.flow ∙ c.requires.1) p.for_near p.for_far,
+    )
 
-pub slice_bounds-split_loaded-end-2 : goal.slice_bounds-split_loaded-end-2
-slice_bounds-split_loaded-end-2 c = sym (let k : c.pins-p.result ≤ most_pins = omega (arith, c.pins-p.ensures, c.requires.0.sound.few_pins) in length-take-le _ _ k)
-
-pub slice_bounds-split_loaded-end-3 : goal.slice_bounds-split_loaded-end-3
-slice_bounds-split_loaded-end-3 c = sym (let k : c.nets-n.result ≤ most_nets = omega (arith, c.nets-n.ensures, c.requires.0.sound.few_nets) in length-take-le _ _ k)
-
-pub slice_bounds-split_loaded-end-4 : goal.slice_bounds-split_loaded-end-4
-slice_bounds-split_loaded-end-4 c = sym (let k : c.modules-m.result ≤ most_modules = omega (arith, c.modules-m.ensures, c.requires.0.sound.few_modules) in length-take-le _ _ k)
-
-pub split_loaded-requires : goal.split_loaded-requires
-split_loaded-requires c = (c.requires.0, (let k : c.nets-n.result + 1 ≤ most_nets + 1 = omega (arith, c.nets-n.ensures, c.requires.0.sound.few_nets) in length-take-le _ _ k) ∙ ap (λ (k : ℕ). k + 1) c.nets-n.ensures, (let k : c.pins-p.result ≤ most_pins = omega (arith, c.pins-p.ensures, c.requires.0.sound.few_pins) in length-take-le _ _ k) ∙ c.pins-p.ensures, (let k : c.nets-n.result ≤ most_nets = omega (arith, c.nets-n.ensures, c.requires.0.sound.few_nets) in length-take-le _ _ k) ∙ c.nets-n.ensures, (let k : c.modules-m.result ≤ most_modules = omega (arith, c.modules-m.ensures, c.requires.0.sound.few_modules) in length-take-le _ _ k) ∙ c.modules-m.ensures, c.requires.1)
+-- what the engine made of the numbers is the split of the book
+solved : (c : After-solve) → Solved (card_of c.args.book.now) c.args.near.now c.args.far.now c.solve.new.near c.solve.new.far c.solve.new.flow
+solved c =
+    let n = c.of-numbers.ensures in
+    solved_loaded c.args.book.now c.requires.0.sound _ _ _ _ _ _ _ _ _ (c.first.ensures ∙ n.first) (c.mods.ensures ∙ n.mods) (c.weight.ensures ∙ n.weight) (c.mark.ensures ∙ n.mark) c.solve.ensures
 
 pub value_of-requires : goal.value_of-requires
-value_of-requires c =
-    let p = c.requires in
-    let l = c.split_loaded in
-    solved_lent _ p.0.sound _ _ _ _ _ l.ensures (omega (arith, l.auto.flow, p.1))
+value_of-requires c = solved_lent c.args.book.now c.requires.0.sound _ _ _ _ _ (solved (goal.at.value_of-requires c).After-solve) (omega (arith, c.solve.auto.flow, c.still.auto.flow, c.requires.1))
 
 pub returns : goal.returns
-returns c =
-    let q = c.split_loaded.ensures in
-    (q, solved_price _ c.requires.0.sound _ _ _ _ _ q _ c.value_of.ensures)
+returns c = let q = solved (goal.at.returns c).After-solve in (q, solved_price c.args.book.now c.requires.0.sound _ _ _ _ _ q _ c.value_of.ensures)

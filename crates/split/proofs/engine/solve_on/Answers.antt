@@ -1,23 +1,8 @@
 use Rattle.flow.specs.Cards.{card_of}
-use mathlib.Core.Path.{sym, ◌∙◌}
+use mathlib.Core.Path.{◌∙◌}
 use lib.Seq.{length-take-le}
 use native.Mathlib.Omega.{arith}
 use Rattle.split.proofs.engine.solve_on.Goals as goal
-
-pub lift-requires : goal.lift-requires
-lift-requires c = let p = c.requires in (p.0, p.1, p.2.fair, p.2.long)
-
-pub slice_bounds-solve_in-end : goal.slice_bounds-solve_in-end
-slice_bounds-solve_in-end c = sym (length-take-le _ _ c.requires.0.few_modules)
-
-pub slice_bounds-solve_in-end-2 : goal.slice_bounds-solve_in-end-2
-slice_bounds-solve_in-end-2 c = sym (length-take-le _ _ c.requires.0.few_modules)
-
-pub slice_bounds-solve_in-end-3 : goal.slice_bounds-solve_in-end-3
-slice_bounds-solve_in-end-3 c = sym (length-take-le _ _ c.requires.0.few_nets)
-
-pub slice_bounds-solve_in-end-4 : goal.slice_bounds-solve_in-end-4
-slice_bounds-solve_in-end-4 c = sym (length-take-le _ _ c.requires.0.few_nets)
 
 pub solve_in-requires : goal.solve_in-requires
 unfolding card_of

@@ -6,44 +6,28 @@ use Rattle.book.specs.Listed.{listed}
 use Rattle.std.specs.Prelude.{◌≡◌, ◌+◌, take, set}
 use lib.ListN.{length-set}
 use mathlib.Core.Path.{ap, ◌∙◌}
-use borrow.Author.Rules.{rules}
 use native.Mathlib.Omega.{arith}
 use Rattle.split.proofs.load.firsts.Goals as goal
 
 pub loop-n-init : goal.loop-n-init
-loop-n-init c = (search rules, search rules, first-zero _, fill_start _ c.args.out.now)
+loop-n-init c = (first-zero _, fill_start _ c.args.out.now)
 
-pub narrow-requires : goal.narrow-requires
-narrow-requires c = omega (arith, first_most c.args.book.now c.requires.0 c.loop-n.n (omega (arith, c.nets-count.ensures)), c.requires.0.few_pins, c.loop-n.invariant.2)
-
-pub bounds-out-n : goal.bounds-out-n
-bounds-out-n c = omega (arith, c.loop-n.invariant.1, c.nets-count.ensures, c.requires.1)
-
-pub pin_count-sum-requires : goal.pin_count-sum-requires
-pin_count-sum-requires c = (c.requires.0.laid_out, omega (arith, c.nets-count.ensures))
+pub overflow_cast-out : goal.overflow_cast-out
+overflow_cast-out c = omega (arith, first_most c.args.book.now c.requires.0 c.loop-n.n (omega (arith, c.nets-count.ensures)), c.requires.0.few_pins, c.loop-n.invariant.0)
 
 pub overflow_add-sum : goal.overflow_add-sum
-overflow_add-sum c = omega (arith, first_most c.args.book.now c.requires.0 c.loop-n.n (omega (arith, c.nets-count.ensures)), c.requires.0.few_pins, c.loop-n.invariant.2, c.pin_count-sum.ensures.1)
+overflow_add-sum c = omega (arith, first_most c.args.book.now c.requires.0 c.loop-n.n (omega (arith, c.nets-count.ensures)), c.requires.0.few_pins, c.loop-n.invariant.0, c.pin_count-sum.ensures.1)
 
 pub loop-n-preserved : goal.loop-n-preserved
-loop-n-preserved c = (omega arith, length-set c.loop-n.out c.loop-n.n c.narrow.result ∙ c.loop-n.invariant.1, omega (arith, c.loop-n.invariant.2, c.pin_count-sum.ensures.0, first_pin-suc c.args.book.now c.loop-n.n), fill_next (first_pin c.args.book.now) c.loop-n.out c.loop-n.n c.narrow.result c.loop-n.invariant.3 (omega (arith, c.loop-n.invariant.1, c.nets-count.ensures, c.requires.1)) (c.narrow.ensures ∙ c.loop-n.invariant.2))
-
-pub narrow-requires-2 : goal.narrow-requires-2
-narrow-requires-2 c = omega (arith, first_most c.args.book.now c.requires.0 c.loop-n.n (omega (arith, c.nets-count.ensures)), c.requires.0.few_pins, c.loop-n.invariant.2)
-
-pub bounds-out-count : goal.bounds-out-count
-bounds-out-count c = omega (arith, c.loop-n.invariant.1, c.nets-count.ensures, c.requires.1)
-
-pub shape_of-out : goal.shape_of-out
-shape_of-out c = length-set c.loop-n.out c.nets-count.result c.narrow-2.result ∙ c.loop-n.invariant.1
+loop-n-preserved c = (omega (arith, c.loop-n.invariant.0, c.pin_count-sum.ensures.0, first_pin-suc c.args.book.now c.loop-n.n), fill_next (first_pin c.args.book.now) c.loop-n.out c.loop-n.n c.loop-n.sum c.loop-n.invariant.1 (omega (arith, c.loop-n.auto.out, c.nets-count.ensures, c.requires.1)) (c.loop-n.invariant.0))
 
 pub returns : goal.returns
 returns c = let s = c.args.book.now in
     let out = c.loop-n.out in
     let k = c.nets-count.result in
     let e : c.loop-n.n ≡ k = omega arith in
-    let h : take k out ≡ listed (first_pin s) k = rw e at c.loop-n.invariant.3 in
-    let g : c.narrow-2.result ≡ first_pin s k = c.narrow-2.ensures ∙ c.loop-n.invariant.2 ∙ ap (first_pin s) e in
-    filled (first_pin s) (set out k c.narrow-2.result) (k + 1) (nets s + 1)
-    (fill_next (first_pin s) out k c.narrow-2.result h (omega (arith, c.loop-n.invariant.1, c.nets-count.ensures, c.requires.1)) g)
-    (omega (arith, length-set out k c.narrow-2.result, c.loop-n.invariant.1, c.requires.1)) (omega (arith, c.nets-count.ensures))
+    let h : take k out ≡ listed (first_pin s) k = rw e at c.loop-n.invariant.1 in
+    let g : c.loop-n.sum ≡ first_pin s k = c.loop-n.invariant.0 ∙ ap (first_pin s) e in
+    filled (first_pin s) (set out k c.loop-n.sum) (k + 1) (nets s + 1)
+    (fill_next (first_pin s) out k c.loop-n.sum h (omega (arith, c.loop-n.auto.out, c.nets-count.ensures, c.requires.1)) g)
+    (omega (arith, length-set out k c.loop-n.sum, c.loop-n.auto.out, c.requires.1)) (omega (arith, c.nets-count.ensures))

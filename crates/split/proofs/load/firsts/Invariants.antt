@@ -1,12 +1,8 @@
 use Rattle.book.specs.Format.{first_pin}
 use Rattle.book.specs.Listed.{listed}
-use Rattle.std.specs.Prelude.{◌≡◌, ◌-◌, ◌≤◌, length, take}
+use Rattle.std.specs.Prelude.{◌≡◌, take}
 use Rattle.split.proofs.load.firsts.Given as goal
 
 abbrev pub invariant-loop-n : goal.invariant-loop-n
 invariant-loop-n l =
-    (l.n ≤ l.count) × (length l.out ≡ length l.initial.out) × (l.sum ≡ first_pin l.book l.n) × (take l.n l.out ≡ listed (first_pin l.book) l.n)
-
-abbrev pub decreases-loop-n : goal.decreases-loop-n
-decreases-loop-n l =
-    l.count - l.n
+    (l.sum ≡ first_pin l.book l.n) × (take l.n l.out ≡ listed (first_pin l.book) l.n)
