@@ -8,12 +8,12 @@ use native.Mathlib.Omega.{arith}
 use Rattle.walk.proofs.choose.free_count.Goals as goal
 
 pub loop-m-init : goal.loop-m-init
-loop-m-init c = (omega arith, none_free (mark c.args.book.now), omega arith)
+loop-m-init c = (none_free (mark c.args.book.now), omega arith)
 
 pub loop-m-preserved : goal.loop-m-preserved
-loop-m-preserved c = (omega arith, omega (arith, c.loop-m.invariant.1, c.free_at-sum.ensures.0), omega (arith, c.free_at-sum.ensures.1))
+loop-m-preserved c = (omega (arith, c.loop-m.invariant.0, c.free_at-sum.ensures.0), omega (arith, c.free_at-sum.ensures.1))
 
 pub returns : goal.returns
 returns c =
     let a = c.args in
-    let e : c.loop-m.m ≡ modules a.book.now = omega arith in (c.loop-m.invariant.1 ∙ ap (free_to (mark a.book.now)) e, omega arith)
+    let e : c.loop-m.m ≡ modules a.book.now = omega arith in (c.loop-m.invariant.0 ∙ ap (free_to (mark a.book.now)) e, omega arith)

@@ -6,8 +6,4 @@ use Rattle.walk.proofs.choose.free_count.Given as goal
 
 abbrev pub invariant-loop-m : goal.invariant-loop-m
 invariant-loop-m l =
-    (l.m ≤ l.count) × (l.sum ≡ free_to (mark l.book) l.m) × (l.sum ≤ l.m)
-
-abbrev pub decreases-loop-m : goal.decreases-loop-m
-decreases-loop-m l =
-    l.count - l.m
+    (l.sum ≡ free_to (mark l.book) l.m) × (l.sum ≤ l.m)

@@ -23,4 +23,4 @@ returns c =
     let p = c.requires in
     let near' = c.near in
     let step' = c.step in
-    one_round a.book.now a.first.now a.mods.now a.weight.now a.nets.now a.at.now a.pins.now a.marks.now p.0 p.1 a.band a.x.now _ _ _ near'.ensures step'.ensures (step'.ensures (band_says a.band) (λ a l. refl)).marked
+    one_round a.book.now a.first.now a.mods.now a.weight.now a.nets.now a.at.now a.pins.now a.marks.now p.0 p.1 a.band a.x.now _ _ _ near'.ensures step'.ensures (step'.ensures (band_says a.band) (λ a l. refl)).pins.marked
