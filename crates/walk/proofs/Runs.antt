@@ -1,6 +1,6 @@
 -- The rounds of the walk as the code's loop goes: it stands at its marks with its rows written (`going_start`, `going_again`), each round has room for its row and leaves fewer modules free
 -- (`going_room`, `going_less`), and the last one makes a walk of the book (`going_ended`). Assumes nothing.
-use Rattle.std.specs.Prelude.{◌≡◌, ℕ, zero, suc, ◌+◌, ◌*◌, ◌<◌, ◌≤◌, Bool, true, List, [], ◌∷◌, ◌++◌, length, get_or}
+use Rattle.std.specs.Prelude.{◌≡◌, ℕ, zero, suc, ◌+◌, ◌*◌, ◌<◌, ◌≤◌, true, List, [], ◌∷◌, ◌++◌, length, get_or}
 use mathlib.Core.Logic.{◌⊎◌, ⊎_elim}
 use mathlib.Core.Path.{refl, sym, ap, ap₂, ◌∙◌, subst}
 use native.Mathlib.Nat.{le_refl}
@@ -22,7 +22,7 @@ use Rattle.gate.specs.Gates.{band_says}
 use Rattle.gate.specs.declared.Band.{Band}
 use Rattle.gate.specs.declared.Verdict.{Verdict}
 use Rattle.walk.specs.declared.Standing.{Standing}
-use Rattle.walk.specs.Walk.{Way, Turn, Stops, Takes, Ends, Row, found, none_left, Walks, free_to, free}
+use Rattle.walk.specs.Walk.{Way, Turn, Stops, Takes, Ends, Row, Walks, free_to, free}
 use Rattle.walk.specs.Call.{row_bytes, rows_bytes, over, room_for}
 use Rattle.walk.specs.Parts.{marks_of, over_at}
 use Rattle.walk.specs.Work.{Marked, Says, OneRound}

@@ -1,5 +1,5 @@
 -- From the walk as it ended to what the call leaves (`wrote`), by way of its checks (`bad_gate`, `short_buffer`, `passed`, `read_refuses`, `read_good`). Assumes nothing.
-use Rattle.std.specs.Prelude.{◌≡◌, ℕ, ◌≤◌, Bool, true, false, ltb, List, length, Result, Ok, Err}
+use Rattle.std.specs.Prelude.{◌≡◌, ℕ, ◌≤◌, true, false, ltb, List, length, Result, Ok, Err}
 use mathlib.Core.Path.{ap, ap₂, ◌∙◌}
 use native.Mathlib.Omega.{arith}
 use borrow.Author.Tests.{ltb-false}

@@ -1,9 +1,8 @@
 -- `walk::walk` meets its contract: the reader refuses, or the rest. Assumes nothing.
 use Rattle.std.proofs.lemmas.Result.{err_from_is_err_and}
-use borrow.Author.Rules.{rules}
 use Rattle.walk.proofs.Whole.{read_good, read_refuses}
 use Rattle.book.proofs.Sound.{sound}
-use mathlib.Core.Path.{refl, sym, ap, ◌∙◌}
+use mathlib.Core.Path.{refl, sym, ◌∙◌}
 use Rattle.walk.proofs.walk.Goals as goal
 
 pub walk_sound-requires : goal.walk_sound-requires

@@ -4,7 +4,7 @@ use Rattle.walk.specs.Walk.{on_cut}
 use Rattle.side.specs.Sides.{side_of}
 use Rattle.book.specs.Cards.{nets_of}
 use Rattle.book.specs.Format.{first_pin}
-use Rattle.std.specs.Prelude.{◌≡◌, ◌-◌, ◌≤◌, take}
+use Rattle.std.specs.Prelude.{◌≡◌, take}
 use Rattle.walk.proofs.cut.cut_row.Given as goal
 
 abbrev pub invariant-loop-n : goal.invariant-loop-n

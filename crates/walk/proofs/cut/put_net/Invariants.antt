@@ -3,7 +3,7 @@ use Rattle.walk.specs.Parts.{Adds}
 use Rattle.book.specs.Cards.{pins_of}
 use Rattle.line.specs.Flow.{only}
 use Rattle.line.specs.Card.{touches}
-use Rattle.std.specs.Prelude.{◌-◌, ◌≤◌, take}
+use Rattle.std.specs.Prelude.{take}
 use Rattle.walk.proofs.cut.put_net.Given as goal
 
 abbrev pub invariant-loop-j : goal.invariant-loop-j

@@ -1,5 +1,5 @@
 -- `walk::finish::whole_area` meets its contract: `sum` is the area of the modules below `m`. Assumes nothing.
-use Rattle.std.specs.Prelude.{◌≡◌, ◌-◌, ◌*◌, ◌≤◌, true}
+use Rattle.std.specs.Prelude.{◌≡◌, ◌*◌, ◌≤◌, true}
 use Rattle.side.specs.Prices.{most_number}
 use Rattle.book.specs.Format.{area}
 use Rattle.line.specs.Card.{area_to}

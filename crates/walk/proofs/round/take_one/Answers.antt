@@ -1,13 +1,11 @@
 -- `walk::round::take_one` meets its contract: the choice found a module, or none. Assumes nothing.
 use Rattle.walk.proofs.Steps.{takes_pins, taken_small}
-use Rattle.walk.specs.Parts.{side_from, marks_of, Pinned}
-use Rattle.walk.specs.Walk.{choice, taking, number}
+use Rattle.walk.specs.Parts.{side_from, marks_of}
+use Rattle.walk.specs.Walk.{choice, taking}
 use Rattle.book.specs.Cards.{card_of}
-use Rattle.line.specs.Card.{either}
-use Rattle.line.specs.Flow.{only}
 use Rattle.side.specs.Sides.{side_of}
-use Rattle.std.specs.Prelude.{◌≡◌, ℕ, Bool, not, Some, length}
-use mathlib.Core.Path.{sym, ap, ap₂, ◌∙◌, subst}
+use Rattle.std.specs.Prelude.{◌≡◌, not, Some}
+use mathlib.Core.Path.{sym, ap, ◌∙◌}
 use native.Mathlib.Omega.{arith}
 use Rattle.walk.proofs.round.take_one.Goals as goal
 
