@@ -15,12 +15,6 @@ loop-n-init c =
     let a = c.args in
     (first-zero a.book.now, cut_start a.book.now (side_of a.x.now) _)
 
-pub put_cut-requires : goal.put_cut-requires
-put_cut-requires c =
-    let p = c.requires in
-    let i = c.loop-n in
-    (p.0, record { sound = p.0.sound; enough = omega (arith, i.auto.out, c.fill.auto.self, p.1.enough) }, record { under = omega arith; begins = i.invariant.0 })
-
 pub overflow_add-first : goal.overflow_add-first
 overflow_add-first c =
     let a = c.args in

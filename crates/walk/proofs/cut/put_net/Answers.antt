@@ -6,9 +6,6 @@ use Rattle.walk.proofs.cut.put_net.Goals as goal
 pub loop-j-init : goal.loop-j-init
 loop-j-init c = (net_start c.args.book.now c.args.n c.args.out.now)
 
-pub put-requires : goal.put-requires
-put-requires c = omega (arith, c.loop-j.invariant.long, c.pin_of.ensures.1, c.requires.0.enough)
-
 pub loop-j-preserved : goal.loop-j-preserved
 loop-j-preserved c =
     let a = c.args in
@@ -17,9 +14,6 @@ loop-j-preserved c =
     let pin-of' = c.pin_of in
     let put' = c.put in
     (net_next a.book.now a.n i.j a.out.now i.out _ pin-of'.result (omega arith) pin-of'.ensures.0 (omega (arith, i.invariant.long, pin-of'.ensures.1, p.0.enough)) put'.ensures i.invariant)
-
-pub shape_of-out : goal.shape_of-out
-shape_of-out c = c.loop-j.invariant.long
 
 pub returns : goal.returns
 returns c =

@@ -7,9 +7,6 @@ use mathlib.Core.Path.{refl, sym, ◌∙◌, subst}
 use native.Mathlib.Omega.{arith}
 use Rattle.walk.proofs.run.run.Goals as goal
 
-pub start-w-requires : goal.start-w-requires
-start-w-requires c = c.requires.0.sound
-
 pub loop-w-init : goal.loop-w-init
 loop-w-init c =
     let a = c.args in
