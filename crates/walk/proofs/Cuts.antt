@@ -13,7 +13,7 @@ use borrow.Author.Tests.{eq-eqb, ne_eqb, ltb-true, ltb-false}
 use Rattle.line.specs.Card.{Net, Side, touches, crosses}
 use Rattle.line.specs.Flow.{only}
 use Rattle.book.specs.Format.{nets, pin_count}
-use Rattle.book.specs.Cards.{net_of, nets_of, pin_of, pins_of}
+use Rattle.book.specs.Cards.{nets_of, pin_of, pins_of}
 use Rattle.book.proofs.CardLaws.{nets-length, net-at, touches_start, touches_next, touches_all}
 use Rattle.side.specs.Sides.{side_of, with_bit}
 use Rattle.side.proofs.Puts.{put_side}
@@ -78,13 +78,6 @@ pub net_all : (s : List ℕ) (n j : ℕ) (old l : List ℕ) → j ≡ pin_count 
 net_all s n j old l e a =
     adds_same (λ m. touches (only m) (take j (pins_of s n))) (on_net s n) old l a
     (λ m. ap (λ (i : ℕ). touches (only m) (take i (pins_of s n))) e ∙ touches_all s (only m) n)
-
--- a net that X cuts, and one that it does not
-pub cut_on : (s : List ℕ) (x : Side) (n : ℕ) (b : Bool) (old l : List ℕ) → b ≡ crosses x (net_of s n) → b ≡ true → Adds (on_net s n) old l → Adds (on_cut_net s x n) old l
-cut_on s x n b old l e t a = adds_same (on_net s n) (on_cut_net s x n) old l a (λ m. ap (λ (d : Bool). d && on_net s n m) (sym t ∙ e))
-
-pub cut_off : (s : List ℕ) (x : Side) (n : ℕ) (b : Bool) (l : List ℕ) → b ≡ crosses x (net_of s n) → b ≡ false → Adds (on_cut_net s x n) l l
-cut_off s x n b l e t = adds_none (on_cut_net s x n) l (λ m. ap (λ (d : Bool). d && on_net s n m) (sym e ∙ t))
 
 -- net by net
 pub cut_start : (s : List ℕ) (x : Side) (l : List ℕ) → Adds (on_cut (take 0 (nets_of s)) x) l l

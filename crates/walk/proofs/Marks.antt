@@ -5,15 +5,11 @@ use mir.Val.{bool_byte}
 use native.Mathlib.Numerals.{add-one}
 use native.Mathlib.Omega.{arith}
 use native.Mathlib.Decide.{ℕ_discrete}
-use native.Mathlib.Nat.{not-suc-le-zero}
 use lib.ListN.{length-set}
 use lib.Seq.{get_or-set_same, get_or-set_other}
 use Rattle.line.specs.Card.{Side, area_to, pin}
 use Rattle.walk.specs.Walk.{free_in, free_to}
 use Rattle.walk.specs.Parts.{marks_of, Pinned}
-
-pub pinned_start : (n : ℕ) (y : Side) (l : List ℕ) → Pinned n y 0 l l
-pinned_start n y l = record { long = refl; done = λ m u. absurd (not-suc-le-zero u); rest = λ m u. refl }
 
 -- one module more, put or left
 module _ (n : ℕ) (y : Side) (i : ℕ) (old l : List ℕ) (b : Bool) (u : i < length old) (e : b ≡ free_in (marks_of l) y i) (h : Pinned n y i old l) where

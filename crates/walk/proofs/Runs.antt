@@ -63,12 +63,12 @@ pub record Going (s : List ℕ) (b : Band) (k₀ k : List ℕ) (n : ℕ) (old ne
   pub long : length new ≡ length old
   pub goes : (v : ℕ → Verdict) → Says b v → GoesOn s v k₀ k n old new
 
-module _ (s : List ℕ) (sound : Sound s) (b : Band) (k₀ : List ℕ) (old : List ℕ) where
-  pub going_start : k₀ ≡ listed (mark s) (modules s) → Going s b k₀ k₀ 0 old old
+module _ {s : List ℕ} (sound : Sound s) {b : Band} {k₀ old : List ℕ} where
+  pub going_start : {n : ℕ} → n ≡ 0 → k₀ ≡ listed (mark s) (modules s) → Going s b k₀ k₀ n old old
   unfolding rows_bytes
-  going_start e = record { begins = e; marked = loaded_marked s k₀ sound e; long = refl; goes = λ v h. record { rounds = []; stands = start; count = refl; bytes = refl } }
+  going_start z e = record { begins = e; marked = loaded_marked s k₀ sound e; long = refl; goes = λ v h. record { rounds = []; stands = start; count = z; bytes = refl } }
 
-  module _ (k : List ℕ) (n : ℕ) (new : List ℕ) (g : Going s b k₀ k n old new) where
+  module _ {k : List ℕ} {n : ℕ} {new : List ℕ} (g : Going s b k₀ k n old new) where
     plain : GoesOn s (band_says b) k₀ k n old new
     plain = g.goes (band_says b) (λ a l. refl)
 
@@ -82,15 +82,15 @@ module _ (s : List ℕ) (sound : Sound s) (b : Band) (k₀ : List ℕ) (old : Li
     pub going_few : n ≤ most_modules
     going_few = omega (arith, spent, area_to_most (λ m. 1) (free (mark s)) (modules s), ones (modules s), sound.few_modules)
 
-    module _ (x : List ℕ) (r : Row) (l : List ℕ) (o : OneRound s b k x r l) (room : room_for s ≤ length old) (new' : List ℕ) (put : new' ≡ over_at (12 * n) (row_bytes r) new) where
+    module _ {x : List ℕ} {r : Row} {l : List ℕ} (o : OneRound s b k x r l) (room : room_for s ≤ length old) {new' : List ℕ} (put : new' ≡ over_at (12 * n) (row_bytes r) new) where
       -- with its row written
       bytes : (v : ℕ → Verdict) (h : Says b v) → new' ≡ over (rows_bytes ((g.goes v h).rounds ++ (r ∷ []))) old
       bytes v h =
           let q = g.goes v h in
           put ∙ ap₂ (λ (i : ℕ) (l : List ℕ). over_at (12 * i) (row_bytes r) l) q.count q.bytes ∙ row_after q.rounds r old (omega (arith, going_room room, q.count, g.long))
 
-      pub going_again : (i : ℕ) → i ≡ n + 1 → (w : Way) (m : ℕ) → r.turn ≡ Takes w m → Going s b k₀ l i old new'
-      going_again i e w m z = record {
+      pub going_again : {i : ℕ} → i ≡ n + 1 → (w : Way) (m : ℕ) → r.turn ≡ Takes w m → Going s b k₀ l i old new'
+      going_again e w m z = record {
         begins = g.begins;
         marked = o.marked;
         long = ap length put ∙ length-paste new (12 * n) (row_bytes r) (length (row_bytes r)) (omega (arith, going_room room, row-length r)) (le_refl (length (row_bytes r))) ∙ g.long;

@@ -1,8 +1,7 @@
 -- From what the parts of a round ensure to the round. Assumes nothing.
-use Rattle.std.specs.Prelude.{◌≡◌, ℕ, ◌<◌, ◌≤◌, Bool, true, ◌&&◌, List, ◌++◌, length, get_or, take, ℤ, Some}
+use Rattle.std.specs.Prelude.{◌≡◌, ℕ, ◌<◌, ◌≤◌, Bool, true, ◌&&◌, List, length, get_or, ℤ, Some}
 use mathlib.Core.Path.{refl, sym, ap, ap₂, ◌∙◌, subst}
 use native.Mathlib.Omega.{arith}
-use lib.Seq.{take_at}
 use Rattle.line.specs.Card.{Side, Alike, outside, either, price}
 use Rattle.line.specs.Flow.{only}
 use Rattle.line.proofs.Below.{near_alike}
@@ -23,9 +22,9 @@ use Rattle.gate.specs.declared.Band.{Band}
 use Rattle.gate.specs.declared.Verdict.{Verdict}
 use Rattle.split.specs.Writes.{Written}
 use Rattle.split.proofs.SameCard.{near_slices, slices_laid}
-use Rattle.walk.specs.Walk.{Way, Meter, Maker, Turn, Stops, Takes, Ends, Row, number, on_cut, free_in, choice, decide, turn, after}
+use Rattle.walk.specs.Walk.{Way, Meter, Maker, Turn, Stops, Takes, Row, number, on_cut, free_in, choice, decide, turn, after}
 use Rattle.walk.specs.Parts.{side_from, marks_of, free_in_row, choice_in, CutRow, Pinned}
-use Rattle.walk.specs.Work.{Ground, NearRow, Loaded, Marked, is_meter, Pins, Says, turn_of, Stepped, OneRound}
+use Rattle.walk.specs.Work.{Ground, NearRow, Loaded, Marked, is_meter, Pins, turn_of, Stepped, OneRound}
 use Rattle.walk.proofs.Rounds.{choice_taken, after_three}
 
 -- ---- the near side
@@ -67,9 +66,6 @@ module _ (s k : List ℕ) (x : Side) (marked : Marked s k) where
         marked = record { long = p.long ∙ marked.long; low = λ i u. subst (λ (n : ℕ). n ≤ 2) (a i u) (after_three w m x (marks_of k) i (marked.low i u)) };
       }
 
-  pub ends_pins : Pins s k x Ends k
-  ends_pins = record { marks = λ i u. refl; marked = marked }
-
   pub stops_pins : Pins s k x Stops k
   stops_pins = record { marks = λ i u. refl; marked = marked }
 
@@ -78,16 +74,12 @@ taken_small s h k x y m e = omega (arith, (choice_taken (book.card_of s) (marks_
 
 -- ---- what the band says
 
-module _ (s k l : List ℕ) (x : Side) (band : Band) (p a : ℕ) (w : Verdict) (e : p ≡ price (book.nets_of s) x) (f : a ≡ book.area_of s x) (small : a ≤ most_area) (said : w ≡ band_says band a) where
-  says : (v : ℕ → Verdict) → Says band v → w ≡ v (book.area_of s x)
-  says v h = said ∙ h a small ∙ ap v f
-
-  pub stepped : (t : Turn) → t ≡ decide w (choice (book.card_of s) (marks_of k) x (outside x)) (choice (book.card_of s) (marks_of k) x x) → Pins s k x t l →
-      Stepped s band k x (record { price = p; area = a; turn = t }) l
-  unfolding turn
-  stepped t d q v h =
-      let g : t ≡ turn_of s v k x = d ∙ ap (λ (u : Verdict). decide u (choice (book.card_of s) (marks_of k) x (outside x)) (choice (book.card_of s) (marks_of k) x x)) (says v h) in
-      record { row = λ i. record { price = e i; area = f i; turn = g i }; pins = subst (λ (t : Turn). Pins s k x t l) g q }
+pub stepped : {s k l : List ℕ} {x : Side} (band : Band) {p a : ℕ} {w : Verdict} {t : Turn} → p ≡ price (book.nets_of s) x → a ≡ book.area_of s x → a ≤ most_area → w ≡ band_says band a →
+    t ≡ decide w (choice (book.card_of s) (marks_of k) x (outside x)) (choice (book.card_of s) (marks_of k) x x) → Pins s k x t l → Stepped s band k x (record { price = p; area = a; turn = t }) l
+unfolding turn
+stepped {s} {k} {l} {x} band {a = a} {t = t} e f small said d q v h =
+    let g : t ≡ turn_of s v k x = d ∙ ap (λ (u : Verdict). decide u (choice (book.card_of s) (marks_of k) x (outside x)) (choice (book.card_of s) (marks_of k) x x)) (said ∙ h a small ∙ ap v f) in
+    record { row = λ i. record { price = e i; area = f i; turn = g i }; pins = subst (λ (t : Turn). Pins s k x t l) g q }
 
 -- ---- the round
 
@@ -119,9 +111,3 @@ module _ (s fs ms ws nt at pl mk : List ℕ) (g : Loaded s fs ms ws nt at pl) (m
     spare = subst (λ (k : ℕ). sides.SpareClear x k) marked.long n.spare;
     marked = m;
   }
-
--- the marks of the book's modules were lent, out of more
-pub round_lent : (s : List ℕ) (band : Band) (n : ℕ) (k x : List ℕ) (r : Row) (l rest : List ℕ) → n ≡ modules s → OneRound s band (take n k) x r l →
-    OneRound s band (take (modules s) k) x r (take (modules s) (l ++ rest))
-round_lent s band n k x r l rest e o =
-    subst (OneRound s band (take (modules s) k) x r) (sym (take_at l rest (modules s) o.marked.long)) (subst (λ (n : ℕ). OneRound s band (take n k) x r l) e o)

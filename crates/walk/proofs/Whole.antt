@@ -1,5 +1,5 @@
--- From the walk as it ended to what the call leaves (`wrote`), by way of its checks (`bad_gate`, `short_buffer`, `passed`, `read_refuses`, `read_good`). Assumes nothing.
-use Rattle.std.specs.Prelude.{◌≡◌, ℕ, ◌≤◌, true, false, ltb, List, length, Result, Ok, Err}
+-- From the walk as it ended to what the call leaves (`wrote`), by way of its checks (`long_enough`, `read_refuses`, `read_good`). Assumes nothing.
+use Rattle.std.specs.Prelude.{◌≡◌, ℕ, ◌≤◌, false, ltb, List, length, Result, Ok, Err}
 use mathlib.Core.Path.{ap, ap₂, ◌∙◌}
 use native.Mathlib.Omega.{arith}
 use borrow.Author.Tests.{ltb-false}
@@ -11,10 +11,9 @@ use Rattle.book.specs.Cards.{card_of, nets_of}
 use Rattle.book.specs.Sound.{Sound}
 use Rattle.book.specs.declared.Book.{Book}
 use Rattle.book.specs.declared.Refusal.{Refusal}
-use Rattle.book.specs.declared.Refusal.TheVariants as refusal
 use Rattle.side.specs.Given.{Lent}
 use Rattle.side.specs.Sides.{side_of, bytes_for}
-use Rattle.gate.specs.Gates.{good_gate, band_of, band_says, gate_says}
+use Rattle.gate.specs.Gates.{band_of, band_says, gate_says}
 use Rattle.gate.specs.declared.Band.{Band}
 use Rattle.gate.specs.declared.Gate.{Gate}
 use Rattle.gate.proofs.Areas.{band-says}
@@ -49,15 +48,6 @@ wrote s g t b side rows side' rows' w r e f ran fin =
     record { rounds = q.rounds; outcome = outcome_of w; walks = q.walks; left = λ i. record { answer = n i; side = fin.side i; rows = q.bytes i } }
 
 module _ (s : List ℕ) (g : Gate) (side rows : List ℕ) (a : Left) where
-  pub bad_gate : good_gate g ≡ false → a ≡ left_by (Err (Refused refusal.Gate)) side rows → Comes (checked_sound s g side rows) s g side rows a
-  bad_gate e h = rw e h
-
-  pub short_buffer : good_gate g ≡ true → too_short s side rows ≡ true → a ≡ left_by (Err (Refused refusal.Buffer)) side rows → Comes (checked_sound s g side rows) s g side rows a
-  short_buffer e f h = rw (e, f) h
-
-  pub passed : good_gate g ≡ true → too_short s side rows ≡ false → Written s g side rows a → Comes (checked_sound s g side rows) s g side rows a
-  passed e f h = rw (e, f) h
-
   pub read_good : (b : Book) → read_of s ≡ Ok b → Comes (checked_sound s g side rows) s g side rows a → Walked s g side rows a
   unfolding checked_of
   read_good b e h = rw e h
