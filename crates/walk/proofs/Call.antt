@@ -1,6 +1,7 @@
 -- The statement of the walk's call settles all that the call leaves: there is one such result (`walked_one`), and there always is one (`walked_some`). What it writes fits the lent buffers
 -- (`rows_fit`, `side_fits`), which keep their lengths (`walked_lengths`). Assumes nothing.
-use Rattle.std.specs.Prelude.{◌≡◌, ℕ, ◌+◌, ◌*◌, ◌<◌, ◌≤◌, Bool, true, false, not, ◌&&◌, T, ltb, List, [], ◌∷◌, ◌++◌, length, drop}
+use Rattle.book.specs.declared.Refusal.{Refusal}
+use Rattle.std.specs.Prelude.{◌≡◌, ℕ, ◌+◌, ◌*◌, ◌<◌, ◌≤◌, Bool, true, false, not, ◌&&◌, T, ltb, List, [], ◌∷◌, ◌++◌, length, drop, Result, Ok, Err}
 use mathlib.Core.Path.{refl, sym, ap, ◌∙◌}
 use mathlib.Core.List.{append_assoc, append-nil}
 use native.Mathlib.Omega.{arith}
@@ -16,8 +17,6 @@ use Rattle.book.specs.Cards.{card_of}
 use Rattle.book.specs.Sound.{Sound}
 use Rattle.book.specs.declared.Book.{Book}
 use Rattle.book.specs.declared.Refusal.TheVariants as refusal
-use Rattle.book.specs.declared.Reading.{Reading}
-use Rattle.book.specs.declared.Reading.TheVariants.{Good, Refused}
 use Rattle.book.proofs.Sound.{sound}
 use Rattle.book.proofs.CardLaws.{card_valid}
 use Rattle.book.proofs.Elements.{length_listed}
@@ -69,13 +68,13 @@ pub record Checked (s : List ℕ) (g : Gate) (side rows : List ℕ) : Type 0 whe
   pub side_room : bytes_for (modules s) ≤ length side
   pub rows_room : room_for s ≤ length rows
 
-pub checked : (s : List ℕ) (g : Gate) (side rows : List ℕ) (b : Book) → checked_of s g side rows ≡ Good b → Checked s g side rows
+pub checked : (s : List ℕ) (g : Gate) (side rows : List ℕ) (b : Book) → checked_of s g side rows ≡ Ok b → Checked s g side rows
 unfolding checked_of too_short
 checked s g side rows b = by (read_of s) (good_gate g) (too_short s side rows) refl refl refl
   where
-    by : (r : Reading) (d t : Bool) → read_of s ≡ r → good_gate g ≡ d → too_short s side rows ≡ t →
-        if_read r (refuse_if (not d) refusal.Gate (refuse_if t refusal.Buffer (Good (book_of s)))) ≡ Good b → Checked s g side rows
-    by (Good c) true false p q h e =
+    by : (r : Result Book Refusal) (d t : Bool) → read_of s ≡ r → good_gate g ≡ d → too_short s side rows ≡ t →
+        if_read r (refuse_if (not d) refusal.Gate (refuse_if t refusal.Buffer (Ok (book_of s)))) ≡ Ok b → Checked s g side rows
+    by (Ok c) true false p q h e =
         let k = or_none (ltb (length side) (bytes_for (modules s))) (ltb (length rows) (room_for s)) h in
         record {
           reads = sound s c p;
@@ -83,9 +82,9 @@ checked s g side rows b = by (read_of s) (good_gate g) (too_short s side rows) r
           side_room = ltb-false (length side) (bytes_for (modules s)) k.0;
           rows_room = ltb-false (length rows) (room_for s) k.1;
         }
-    by (Good c) true true p q h e = let z : ◌≡◌ {A = ℕ} 0 1 = cc in absurd (omega arith)
-    by (Good c) false t p q h e = let z : ◌≡◌ {A = ℕ} 0 1 = cc in absurd (omega arith)
-    by (Refused r) d t p q h e = let z : ◌≡◌ {A = ℕ} 0 1 = cc in absurd (omega arith)
+    by (Ok c) true true p q h e = let z : ◌≡◌ {A = ℕ} 0 1 = cc in absurd (omega arith)
+    by (Ok c) false t p q h e = let z : ◌≡◌ {A = ℕ} 0 1 = cc in absurd (omega arith)
+    by (Err r) d t p q h e = let z : ◌≡◌ {A = ℕ} 0 1 = cc in absurd (omega arith)
 
 -- ---- what is written fits
 
@@ -116,17 +115,17 @@ module _ (s : List ℕ) (g : Gate) (side rows : List ℕ) where
   pub walked_one : (a b : Left) → Walked s g side rows a → Walked s g side rows b → a ≡ b
   walked_one a b = by (checked_of s g side rows) refl
     where
-      by : (r : Reading) → checked_of s g side rows ≡ r → Comes r s g side rows a → Comes r s g side rows b → a ≡ b
-      by (Refused r) e h k = h ∙ sym k
-      by (Good c) e h k =
+      by : (r : Result Book Refusal) → checked_of s g side rows ≡ r → Comes r s g side rows a → Comes r s g side rows b → a ≡ b
+      by (Err r) e h k = h ∙ sym k
+      by (Ok c) e h k =
           h.left ∙ written_same (checked s g side rows c e).reads h.rounds k.rounds h.outcome k.outcome h.walks k.walks ∙ sym k.left
 
   pub walked_some : (a : Left) × Walked s g side rows a
   walked_some = by (checked_of s g side rows) refl
     where
-      by : (r : Reading) → checked_of s g side rows ≡ r → (a : Left) × Comes r s g side rows a
-      by (Refused r) e = (refused r side rows, refl)
-      by (Good c) e =
+      by : (r : Result Book Refusal) → checked_of s g side rows ≡ r → (a : Left) × Comes r s g side rows a
+      by (Err r) e = (refused r side rows, refl)
+      by (Ok c) e =
           let w = walks_some (card_of s) (card_valid s (checked s g side rows c e).reads) (area s) (gate_says g (whole_area (card_of s) (area s))) in
           (written s w.0 w.1 side rows, record { rounds = w.0; outcome = w.1; walks = w.2; left = refl })
 
@@ -139,6 +138,6 @@ module _ (s : List ℕ) (g : Gate) (side rows : List ℕ) where
   pub walked_lengths : (a : Left) → Walked s g side rows a → (length a.side ≡ length side) × (length a.rows ≡ length rows)
   walked_lengths a = by (checked_of s g side rows) refl
     where
-      by : (r : Reading) → checked_of s g side rows ≡ r → Comes r s g side rows a → (length a.side ≡ length side) × (length a.rows ≡ length rows)
-      by (Refused r) e h = rw h (refl, refl)
-      by (Good c) e h = rw h.left (lengths (checked s g side rows c e) h.rounds h.outcome h.walks)
+      by : (r : Result Book Refusal) → checked_of s g side rows ≡ r → Comes r s g side rows a → (length a.side ≡ length side) × (length a.rows ≡ length rows)
+      by (Err r) e h = rw h (refl, refl)
+      by (Ok c) e h = rw h.left (lengths (checked s g side rows c e) h.rounds h.outcome h.walks)

@@ -1,19 +1,19 @@
--- The modules with a pin on a net that X cuts, net by net and pin by pin as a row of bits is filled: it is cleared (`zero_next`, `cleared`), what is put on adds up (`adds_then`), the modules
+-- The modules with a pin on a net that X cuts, net by net and pin by pin as a row of bits is filled: it is cleared (`cleared`), what is put on adds up (`adds_then`), the modules
 -- of a net are put on (`net_next`), and of each net that is cut (`cut_next`, `cut-row`). Assumes nothing.
-use Rattle.std.specs.Prelude.{◌≡◌, ℕ, ◌+◌, ◌/◌, ◌%◌, ◌^◌, ◌<◌, Bool, true, false, ◌&&◌, ◌||◌, eqb, ltb, List, length, get_or, take, set}
+use Rattle.std.specs.Prelude.{◌≡◌, ℕ, ◌+◌, ◌/◌, ◌%◌, ◌^◌, ◌<◌, Bool, true, false, ◌&&◌, ◌||◌, eqb, ltb, List, length, get_or, take, replicate}
 use mathlib.Core.Path.{refl, sym, ap, ◌∙◌}
 use mathlib.Core.Bool.{or_assoc, or-false}
 use native.Mathlib.Numerals.{add-one}
 use native.Mathlib.Omega.{arith}
 use native.Mathlib.Decide.{ℕ_discrete}
 use native.Mathlib.Nat.{zero-div}
-use lib.ListN.{length-set, get_or-eq_default}
-use lib.Seq.{take_all, get_or-set_same, get_or-set_other}
+use lib.ListN.{length-set, length-replicate, get_or-replicate, get_or-eq_default}
+use lib.Seq.{take_all}
 use borrow.Author.Tests.{eq-eqb, ne_eqb, ltb-true, ltb-false}
 use Rattle.line.specs.Card.{Net, Side, touches, crosses}
 use Rattle.line.specs.Flow.{only}
 use Rattle.book.specs.Format.{nets, pin_count}
-use Rattle.book.specs.Cards.{net_of, nets_of, pin_of, pins_of}
+use Rattle.book.specs.Cards.{nets_of, pin_of, pins_of}
 use Rattle.book.proofs.CardLaws.{nets-length, net-at, touches_start, touches_next, touches_all}
 use Rattle.side.specs.Sides.{side_of, with_bit}
 use Rattle.side.proofs.Puts.{put_side}
@@ -24,19 +24,19 @@ use Rattle.walk.proofs.Rounds.{on_cut-suc}
 zero_bit : (j : ℕ) → 0 / 2 ^ j % 2 ≡ 0
 zero_bit j = ap (λ (x : ℕ). x % 2) (zero-div (2 ^ j))
 
--- bytes that are 0 as far as the row goes
-pub cleared : (old l : List ℕ) → length l ≡ length old → ((i : ℕ) → i < length l → get_or l i 0 ≡ 0) → Cleared old l
-cleared old l e f = record {
-  long = e;
+-- every byte is 0
+pub cleared : (old : List ℕ) → Cleared old (replicate (length old) 0)
+cleared old = record {
+  long = length-replicate (length old) 0;
   clear = λ m. ap (λ (b : ℕ). eqb (b / 2 ^ (m % 8) % 2) 1) (all (m / 8)) ∙ ap (λ (b : ℕ). eqb b 1) (zero_bit (m % 8));
 }
   where
-    all : (i : ℕ) → get_or l i 0 ≡ 0
-    all i = go (ltb i (length l)) refl
+    all : (i : ℕ) → ◌≡◌ {A = ℕ} (get_or (replicate (length old) 0) i 0) 0
+    all i = go (ltb i (length old)) refl
       where
-        go : (b : Bool) → ltb i (length l) ≡ b → get_or l i 0 ≡ 0
-        go true u = f i (ltb-true i (length l) u)
-        go false u = get_or-eq_default l 0 (ltb-false i (length l) u)
+        go : (b : Bool) → ltb i (length old) ≡ b → ◌≡◌ {A = ℕ} (get_or (replicate (length old) 0) i 0) 0
+        go true u = get_or-replicate (length old) i 0 0 (ltb-true i (length old) u)
+        go false u = get_or-eq_default (replicate (length old) 0) 0 (omega (arith, length-replicate {A = ℕ} (length old) 0, ltb-false i (length old) u))
 
 eqb_swap : (a b : ℕ) → eqb a b ≡ eqb b a
 eqb_swap a b = go (ℕ_discrete a b)
@@ -79,13 +79,6 @@ net_all s n j old l e a =
     adds_same (λ m. touches (only m) (take j (pins_of s n))) (on_net s n) old l a
     (λ m. ap (λ (i : ℕ). touches (only m) (take i (pins_of s n))) e ∙ touches_all s (only m) n)
 
--- a net that X cuts, and one that it does not
-pub cut_on : (s : List ℕ) (x : Side) (n : ℕ) (b : Bool) (old l : List ℕ) → b ≡ crosses x (net_of s n) → b ≡ true → Adds (on_net s n) old l → Adds (on_cut_net s x n) old l
-cut_on s x n b old l e t a = adds_same (on_net s n) (on_cut_net s x n) old l a (λ m. ap (λ (d : Bool). d && on_net s n m) (sym t ∙ e))
-
-pub cut_off : (s : List ℕ) (x : Side) (n : ℕ) (b : Bool) (l : List ℕ) → b ≡ crosses x (net_of s n) → b ≡ false → Adds (on_cut_net s x n) l l
-cut_off s x n b l e t = adds_none (on_cut_net s x n) l (λ m. ap (λ (d : Bool). d && on_net s n m) (sym e ∙ t))
-
 -- net by net
 pub cut_start : (s : List ℕ) (x : Side) (l : List ℕ) → Adds (on_cut (take 0 (nets_of s)) x) l l
 unfolding on_cut
@@ -106,10 +99,3 @@ cut-row s x n old l k e c a = record {
   cut = λ m. a.side m ∙ ap (λ (b : Bool). b || on_cut (take n (nets_of s)) x m) (c.clear m)
       ∙ ap (λ (ns : List Net). on_cut ns x m) (take_all n (nets_of s) (omega (arith, nets-length s)));
 }
-
-pub zero_next : (l : List ℕ) (i : ℕ) → i < length l → ((j : ℕ) → j < i → get_or l j 0 ≡ 0) → (length (set l i 0) ≡ length l) × ((j : ℕ) → j < i + 1 → get_or (set l i 0) j 0 ≡ 0)
-zero_next l i u f = (length-set l i 0, λ j v. go j v (ℕ_discrete j i))
-  where
-    go : (j : ℕ) → j < i + 1 → Dec (j ≡ i) → get_or (set l i 0) j 0 ≡ 0
-    go j v (yes e) = rw e (get_or-set_same l i 0 0 u)
-    go j v (no n) = get_or-set_other l i j 0 0 n ∙ f j (omega (arith, n))

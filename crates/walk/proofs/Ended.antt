@@ -1,21 +1,22 @@
--- A row of bits whose spare bits are 0 is the bytes of its side (`side_row`), and what the last round came to is what the call answers (`finish_stops`, `finish_ends`). Assumes nothing.
-use Rattle.std.specs.Prelude.{◌≡◌, ℕ, zero, suc, ◌+◌, ◌*◌, ◌/◌, ◌%◌, ◌^◌, ◌<◌, ◌≤◌, Bool, true, false, cond, ◌&&◌, eqb, ltb, List, length, get_or, take}
+-- A row of bits whose spare bits are 0 is the bytes of its side (`side_over`), and what the last round came to is what the call answers (`finish_by`). Assumes nothing.
+use Rattle.std.specs.Prelude.{◌≡◌, ℕ, zero, suc, ◌+◌, ◌*◌, ◌/◌, ◌%◌, ◌^◌, ◌<◌, ◌≤◌, Bool, true, false, cond, ◌&&◌, eqb, ltb, List, ◌++◌, length, get_or, take, drop, Result}
 use mathlib.Core.Path.{refl, sym, ap, ap₂, ◌∙◌}
 use native.Mathlib.Nat.{div-one, pow-zero, pow-succ', div-div-eq-div-mul}
 use native.Mathlib.Numerals.{add-one}
 use native.Mathlib.Omega.{arith}
 use lib.Seq.{ext_get_or, length-take-le, get_or-take}
-use borrow.Author.Tests.{eq-eqb, ne_eqb, eqb-true, eqb-false, ltb-false}
+use borrow.Author.Tests.{eqb-true, eqb-false, ltb-false}
 use Rattle.line.specs.Card.{area_to}
 use Rattle.book.specs.Format.{modules, area}
 use Rattle.book.proofs.Elements.{length_listed, get_or_listed}
 use Rattle.side.specs.Sides.{side_of, bytes_for, SpareClear}
-use Rattle.walk.specs.declared.Answered.{Answered}
-use Rattle.walk.specs.declared.Answered.TheVariants.{Done, Stuck}
+use Rattle.walk.specs.declared.Done.{Done}
+use Rattle.walk.specs.declared.NotDone.{NotDone}
 use Rattle.walk.specs.declared.Standing.{Standing}
-use Rattle.walk.specs.Walk.{found, none_left}
+use Rattle.walk.specs.Walk.{Turn}
 use Rattle.walk.specs.Call.{binary, side_byte, side_bytes, over, side_after}
-use Rattle.walk.specs.Answer.{Finished}
+use Rattle.walk.specs.Runs.{outcome_at}
+use Rattle.walk.specs.Answer.{answered_at, Finished}
 
 -- ---- bits and bytes
 
@@ -63,13 +64,20 @@ module _ (n : ℕ) (x : List ℕ) (small : (i : ℕ) → get_or x i 0 < 256) (en
   byte i l =
       binary_same 8 (λ j. ltb (8 * i + j) n && side_of x (8 * i + j)) (λ j. eqb (get_or x i 0 / 2 ^ j % 2) 1) (λ j u. bit i j l u) ∙ binary_bits 8 (get_or x i 0) (small i)
 
-  pub side_row : take (bytes_for n) x ≡ side_bytes (side_of x) n
+  side_row : take (bytes_for n) x ≡ side_bytes (side_of x) n
   side_row =
       let t = length-take-le (bytes_for n) x enough in
       ext_get_or 0 (take (bytes_for n) x) (side_bytes (side_of x) n) (t ∙ sym (length_listed (side_byte (side_of x) n) (bytes_for n)))
       (λ i u.
       let l : i < bytes_for n = omega (arith, u, t) in
       get_or-take (bytes_for n) x i 0 l ∙ sym (byte i l) ∙ sym (get_or_listed (side_byte (side_of x) n) (bytes_for n) i 0 l))
+
+  -- written over the front of a buffer
+  pub side_over : (k : ℕ) (old new : List ℕ) → k ≡ n → new ≡ take ((k + 7) / 8) x → new ++ drop ((k + 7) / 8) old ≡ over (side_bytes (side_of x) n) old
+  side_over k old new e f =
+      let b : (k + 7) / 8 ≡ bytes_for n = ap bytes_for e in
+      let w : new ≡ side_bytes (side_of x) n = f ∙ ap (λ (i : ℕ). take i x) b ∙ side_row in
+      ap₂ (λ (l : List ℕ) (i : ℕ). l ++ drop i old) w (b ∙ sym (length_listed (side_byte (side_of x) n) (bytes_for n)))
 
 -- ---- the total area
 
@@ -83,19 +91,9 @@ area_more s m sum a e f = rw (add-one m) (ap₂ (λ (p q : ℕ). p + q) e f)
 
 -- ---- the answer
 
-pub finish_stops : (s : List ℕ) (w : Standing) (old new : List ℕ) (r : Answered) → w.row.way ≡ 0 → new ≡ over (side_bytes (side_of w.x) (modules s)) old → r ≡ Done w.row.price w.rounds →
-    Finished s w old new r
-finish_stops s w old new r e f g =
-    let b : eqb w.row.way 0 ≡ true = eq-eqb w.row.way 0 e in
-    record {
-      side = f ∙ ap (λ (d : Bool). side_after (modules s) (cond d (found (side_of w.x)) none_left) old) (sym b);
-      answer = g ∙ ap (λ (d : Bool). cond d (Done w.row.price w.rounds) (Stuck w.rounds)) (sym b);
-    }
-
-pub finish_ends : (s : List ℕ) (w : Standing) (old : List ℕ) (r : Answered) → ¬ (w.row.way ≡ 0) → r ≡ Stuck w.rounds → Finished s w old old r
-finish_ends s w old r e g =
-    let b : eqb w.row.way 0 ≡ false = ne_eqb w.row.way 0 e in
-    record {
-      side = ap (λ (d : Bool). side_after (modules s) (cond d (found (side_of w.x)) none_left) old) (sym b);
-      answer = g ∙ ap (λ (d : Bool). cond d (Done w.row.price w.rounds) (Stuck w.rounds)) (sym b);
-    }
+module _ (s : List ℕ) (w : Standing) (old new : List ℕ) (r : Result Done NotDone) (t : Turn) (e : w.row.turn ≡ t) where
+  pub finish_by : new ≡ side_after (modules s) (outcome_at t (side_of w.x)) old → r ≡ answered_at t w.row.price w.rounds → Finished s w old new r
+  finish_by f g = record {
+    side = f ∙ ap (λ (t : Turn). side_after (modules s) (outcome_at t (side_of w.x)) old) (sym e);
+    answer = g ∙ ap (λ (t : Turn). answered_at t w.row.price w.rounds) (sym e);
+  }

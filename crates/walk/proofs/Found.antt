@@ -6,13 +6,13 @@ use Rattle.line.specs.Card.{Card, Side, Separates, area_to, remark}
 use Rattle.line.proofs.Cheap.{separates_loose}
 use Rattle.gate.specs.declared.Verdict.{Verdict}
 use Rattle.gate.specs.declared.Verdict.TheVariants.{Within}
-use Rattle.walk.specs.Walk.{stops, Row, Outcome, found, row, after, Walks, stop, go, end}
+use Rattle.walk.specs.Walk.{Stops, Row, Outcome, found, row, after, Walks, stop, go, end}
 use Rattle.walk.proofs.Rounds.{after_tightens, turn_within}
 use Rattle.walk.proofs.Prices.{no_row}
 
 module _ (c : Card) (area : ℕ → ℕ) (v : ℕ → Verdict) where
   -- the last price is the price of the side found
-  pub found_last : {k : ℕ → ℕ} {rs : List Row} {x : Side} → Walks c area v k rs (found x) → (i : ℕ) → suc i ≡ length rs → get_or rs i no_row ≡ row c area x stops
+  pub found_last : {k : ℕ → ℕ} {rs : List Row} {x : Side} → Walks c area v k rs (found x) → (i : ℕ) → suc i ≡ length rs → get_or rs i no_row ≡ row c area x Stops
   found_last (stop x p e) zero l = refl
   found_last (stop x p e) (suc i) l = absurd (omega arith)
   found_last (go y w m p e a) zero l = absurd (some_row a (omega arith))

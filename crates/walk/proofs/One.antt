@@ -7,7 +7,7 @@ use Rattle.line.specs.Card.{Card, Alike}
 use Rattle.line.proofs.Price.{price_same}
 use Rattle.line.proofs.Duality.{Valid}
 use Rattle.gate.specs.declared.Verdict.{Verdict}
-use Rattle.walk.specs.Walk.{stops, takes, ends, Row, Outcome, found, none_left, after, Walks, stop, go, end, answer}
+use Rattle.walk.specs.Walk.{Stops, Takes, Ends, Row, Outcome, found, none_left, after, Walks, stop, go, end, answer}
 use Rattle.walk.proofs.Rounds.{meet, turn_same, row_same, after_same}
 
 abbrev pub SameOutcome : ℕ → Outcome → Outcome → Type 0
@@ -21,7 +21,7 @@ module _ (c : Card) (valid : Valid c) (area : ℕ → ℕ) (v : ℕ → Verdict)
       (rs ≡ ss) × SameOutcome c.modules o p
   walks_alike j k _ _ _ _ e (stop x p f) (stop y q g) =
       let h = meet c valid area j k e x y p q in
-      (ap (λ r. r ∷ []) (row_same c area j k x y h stops), h.side)
+      (ap (λ r. r ∷ []) (row_same c area j k x y h Stops), h.side)
   walks_alike j k _ _ _ _ e (stop x p f) (go y w m q g r) =
       let h = turn_same c area j k x y (meet c valid area j k e x y p q) v in
       let z : ◌≡◌ {A = ℕ} 0 1 = cc in absurd (omega arith)
@@ -36,7 +36,7 @@ module _ (c : Card) (valid : Valid c) (area : ℕ → ℕ) (v : ℕ → Verdict)
       let z : ◌≡◌ {A = ℕ} 0 1 = cc in absurd (omega arith)
   walks_alike j k _ _ _ _ e (end x p f) (end y q g) =
       let h = meet c valid area j k e x y p q in
-      (ap (λ r. r ∷ []) (row_same c area j k x y h ends), tt)
+      (ap (λ r. r ∷ []) (row_same c area j k x y h Ends), tt)
   walks_alike j k _ _ _ _ e (go x w m p f a) (stop y q g) =
       let h = turn_same c area j k x y (meet c valid area j k e x y p q) v in
       let z : ◌≡◌ {A = ℕ} 0 1 = cc in absurd (omega arith)
@@ -50,7 +50,7 @@ module _ (c : Card) (valid : Valid c) (area : ℕ → ℕ) (v : ℕ → Verdict)
       let n : m' ≡ m = cc in
       let b' : Walks c area v (after w m y k) ss o' = rw (u, n) at b in
       let r = walks_alike (after w m x j) (after w m y k) rs ss o o' (after_same w m c.modules x y j k h.side e) a b' in
-      (rw (u, n, row_same c area j k x y h (takes w m), r.0), r.1)
+      (rw (u, n, row_same c area j k x y h (Takes w m), r.0), r.1)
 
   -- two walks of one card from one set of marks under one gate have the same rows and come to the same
   pub walks_one : {k : ℕ → ℕ} {rs ss : List Row} {o p : Outcome} → Walks c area v k rs o → Walks c area v k ss p → (rs ≡ ss) × SameOutcome c.modules o p

@@ -7,13 +7,13 @@ use Rattle.line.specs.Card.{Card, Side, remark}
 use Rattle.line.proofs.Duality.{Valid}
 use Rattle.line.proofs.Trial.{near_in, near_tried}
 use Rattle.gate.specs.declared.Verdict.{Verdict}
-use Rattle.walk.specs.Walk.{Way, Turn, stops, takes, ends, Row, Outcome, found, none_left, turn, row, after, free_to, Walks, stop, go, end}
+use Rattle.walk.specs.Walk.{Way, Turn, Stops, Takes, Ends, Row, Outcome, found, none_left, turn, row, after, free_to, Walks, stop, go, end}
 use Rattle.walk.proofs.Rounds.{after_valid, round_less}
 
 abbrev step : Card → (ℕ → ℕ) → Side → Turn → (Way → ℕ → List Row × Outcome) → List Row × Outcome
-step c area x stops f = (row c area x stops ∷ [], found x)
-step c area x (takes w m) f = (row c area x (takes w m) ∷ (f w m).0, (f w m).1)
-step c area x ends f = (row c area x ends ∷ [], none_left)
+step c area x Stops f = (row c area x Stops ∷ [], found x)
+step c area x (Takes w m) f = (row c area x (Takes w m) ∷ (f w m).0, (f w m).1)
+step c area x Ends f = (row c area x Ends ∷ [], none_left)
 
 unfoldable pub run : Card → (ℕ → ℕ) → (ℕ → Verdict) → ℕ → (ℕ → ℕ) → List Row × Outcome
 run c area v zero k = ([], none_left)
@@ -32,11 +32,11 @@ run_walks c area v (suc n) k d l = by (turn c area v k x) refl (λ w m e. run_wa
     x = near_in (remark c k)
 
     by : (t : Turn) → turn c area v k x ≡ t →
-        ((w : Way) (m : ℕ) → turn c area v k x ≡ takes w m → Walks c area v (after w m x k) (run c area v n (after w m x k)).0 (run c area v n (after w m x k)).1) →
+        ((w : Way) (m : ℕ) → turn c area v k x ≡ Takes w m → Walks c area v (after w m x k) (run c area v n (after w m x k)).0 (run c area v n (after w m x k)).1) →
         Walks c area v k (step c area x t (λ w m. run c area v n (after w m x k))).0 (step c area x t (λ w m. run c area v n (after w m x k))).1
-    by stops e f = stop x (near_tried (remark c k) d) e
-    by (takes w m) e f = go x w m (near_tried (remark c k) d) e (f w m e)
-    by ends e f = end x (near_tried (remark c k) d) e
+    by Stops e f = stop x (near_tried (remark c k) d) e
+    by (Takes w m) e f = go x w m (near_tried (remark c k) d) e (f w m e)
+    by Ends e f = end x (near_tried (remark c k) d) e
 
 pub walks_some : (c : Card) → Valid c → (area : ℕ → ℕ) (v : ℕ → Verdict) → (rs : List Row) × (o : Outcome) × Walks c area v c.mark rs o
 walks_some c d area v =

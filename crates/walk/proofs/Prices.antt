@@ -5,7 +5,7 @@ use native.Mathlib.Nat.{not-suc-le-zero, le_trans, le_of_suc-le-suc}
 use Rattle.line.specs.Card.{Card, Side, price, Near, remark}
 use Rattle.line.proofs.Cheap.{price_rises}
 use Rattle.gate.specs.declared.Verdict.{Verdict}
-use Rattle.walk.specs.Walk.{Way, Row, Outcome, after, Walks, stop, go, end}
+use Rattle.walk.specs.Walk.{Way, Stops, Row, Outcome, after, Walks, stop, go, end}
 use Rattle.walk.proofs.Rounds.{after_tightens}
 
 -- a number that is at most the price of every near side for the marks k
@@ -18,7 +18,7 @@ Rising b [] = Unit {0}
 Rising b (r ∷ rs) = (b ≤ r.price) × Rising r.price rs
 
 abbrev pub no_row : Row
-no_row = record { price = 0; area = 0; taken = 0; way = 0 }
+no_row = record { price = 0; area = 0; turn = Stops }
 
 rising_at : (b : ℕ) (rs : List Row) → Rising b rs → (j : ℕ) → j < length rs → b ≤ (get_or rs j no_row).price
 rising_at b [] h j l = absurd (not-suc-le-zero l)

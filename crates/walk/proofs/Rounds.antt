@@ -1,12 +1,10 @@
 -- A round depends on marks and sides below the number of modules alone, takes a free module and leaves fewer free (`round_less`), so that there are at most f + 1 rounds (`walks_rounds`).
 -- Assumes nothing.
-use Rattle.std.specs.Prelude.{◌≡◌, ℕ, suc, ◌+◌, ◌<◌, ◌≤◌, Bool, true, false, cond, not, ◌&&◌, ◌||◌, T, eqb, List, [], ◌∷◌, ◌++◌, length, take}
+use Rattle.std.specs.Prelude.{◌≡◌, ℕ, suc, ◌+◌, ◌<◌, ◌≤◌, Bool, true, false, cond, not, ◌&&◌, ◌||◌, T, eqb, List, [], ◌∷◌, ◌++◌, length, take, Option, Some, None}
 use mathlib.Core.Path.{refl, sym, ap, ◌∙◌}
 use mathlib.Core.Bool.{or-false, or_assoc}
 use mathlib.Core.List.Memᴰ
 use mathlib.Core.List.{Memᴰ}
-use Rattle.book.specs.declared.Found.{Found}
-use Rattle.book.specs.declared.Found.TheVariants.{At, Nothing}
 use native.Mathlib.Omega.{arith}
 use lib.Seq.{take-suc}
 use lib.Dec.{eqb→eq, eqb_refl, not_T}
@@ -22,7 +20,7 @@ use Rattle.line.proofs.Duality.{Valid}
 use Rattle.book.specs.First.{or_else, lowest}
 use Rattle.gate.specs.declared.Verdict.{Verdict}
 use Rattle.gate.specs.declared.Verdict.TheVariants.{Below, Within, Above}
-use Rattle.walk.specs.Walk.{Way, meter, maker, Turn, stops, takes, on_cut, free_in, choice, decide, turn, number, row, after, free, free_to, Row, Outcome, Walks, stop, go, end}
+use Rattle.walk.specs.Walk.{Way, Meter, Maker, Turn, Stops, Takes, on_cut, free_in, choice, decide, turn, number, row, after, free, free_to, Row, Outcome, Walks, stop, go, end}
 
 -- ---- what agrees below n
 
@@ -59,49 +57,49 @@ pub record Taken (c : Card) (k : ℕ → ℕ) (y : Side) (m : ℕ) : Type 0 wher
 free_taken : (c : Card) (k : ℕ → ℕ) (y : Side) (m : ℕ) → m < c.modules → T (free_in k y m) → Taken c k y m
 free_taken c k y m l t = record { under = l; chosen = and_l (y m) (eqb (k m) 0) t; free = eqb→eq (k m) 0 (and_r (y m) (eqb (k m) 0) t) }
 
-pub choice_taken : (c : Card) (k : ℕ → ℕ) (x y : Side) (m : ℕ) → choice c k x y ≡ At m → Taken c k y m
+pub choice_taken : (c : Card) (k : ℕ → ℕ) (x y : Side) (m : ℕ) → choice c k x y ≡ Some m → Taken c k y m
 unfolding choice
 choice_taken c k x y m = go (lowest (λ m. free_in k y m && on_cut c.nets x m) c.modules) refl
   where
-    go : (o : Found) → lowest (λ m. free_in k y m && on_cut c.nets x m) c.modules ≡ o → or_else o (lowest (free_in k y) c.modules) ≡ At m → Taken c k y m
-    go Nothing e h = let q = lowest_some (free_in k y) c.modules m h in free_taken c k y m q.under q.passes
-    go (At i) e h =
+    go : (o : Option ℕ) → lowest (λ m. free_in k y m && on_cut c.nets x m) c.modules ≡ o → or_else o (lowest (free_in k y) c.modules) ≡ Some m → Taken c k y m
+    go None e h = let q = lowest_some (free_in k y) c.modules m h in free_taken c k y m q.under q.passes
+    go (Some i) e h =
         let q = lowest_some (λ m. free_in k y m && on_cut c.nets x m) c.modules m (e ∙ h) in
         free_taken c k y m q.under (and_l (free_in k y m) (on_cut c.nets x m) q.passes)
 
 -- the side from which a way takes its module
 abbrev pub from : Way → Side → Side
-from meter x = outside x
-from maker x = x
+from Meter x = outside x
+from Maker x = x
 
 module _ (c : Card) (area : ℕ → ℕ) (v : ℕ → Verdict) (k : ℕ → ℕ) (x : Side) where
-  pub turn_taken : (w : Way) (m : ℕ) → turn c area v k x ≡ takes w m → Taken c k (from w x) m
+  pub turn_taken : (w : Way) (m : ℕ) → turn c area v k x ≡ Takes w m → Taken c k (from w x) m
   unfolding turn
   turn_taken w m = go (v (area_to area x c.modules)) (choice c k x (outside x)) (choice c k x x) refl refl w
     where
-      clash : {w w' : Way} {m m' : ℕ} → takes w m ≡ takes w' m' → m ≡ m'
+      clash : {w w' : Way} {m m' : ℕ} → Takes w m ≡ Takes w' m' → m ≡ m'
       clash e = cc
 
-      go : (a : Verdict) (o i : Found) → choice c k x (outside x) ≡ o → choice c k x x ≡ i → (w : Way) → decide a o i ≡ takes w m → Taken c k (from w x) m
-      go Below Nothing i p q w h = let z : ◌≡◌ {A = ℕ} 0 1 = cc in absurd (omega arith)
-      go Below (At n) i p q meter h = choice_taken c k x (outside x) m (p ∙ ap At (clash h))
-      go Below (At n) i p q maker h = let z : ◌≡◌ {A = ℕ} 0 1 = cc in absurd (omega arith)
+      go : (a : Verdict) (o i : Option ℕ) → choice c k x (outside x) ≡ o → choice c k x x ≡ i → (w : Way) → decide a o i ≡ Takes w m → Taken c k (from w x) m
+      go Below None i p q w h = let z : ◌≡◌ {A = ℕ} 0 1 = cc in absurd (omega arith)
+      go Below (Some n) i p q Meter h = choice_taken c k x (outside x) m (p ∙ ap Some (clash h))
+      go Below (Some n) i p q Maker h = let z : ◌≡◌ {A = ℕ} 0 1 = cc in absurd (omega arith)
       go Within o i p q w h = let z : ◌≡◌ {A = ℕ} 0 1 = cc in absurd (omega arith)
-      go Above o Nothing p q w h = let z : ◌≡◌ {A = ℕ} 0 1 = cc in absurd (omega arith)
-      go Above o (At n) p q meter h = let z : ◌≡◌ {A = ℕ} 0 1 = cc in absurd (omega arith)
-      go Above o (At n) p q maker h = choice_taken c k x x m (q ∙ ap At (clash h))
+      go Above o None p q w h = let z : ◌≡◌ {A = ℕ} 0 1 = cc in absurd (omega arith)
+      go Above o (Some n) p q Meter h = let z : ◌≡◌ {A = ℕ} 0 1 = cc in absurd (omega arith)
+      go Above o (Some n) p q Maker h = choice_taken c k x x m (q ∙ ap Some (clash h))
 
   -- it stops only where the gate takes the area
-  pub turn_within : turn c area v k x ≡ stops → v (area_to area x c.modules) ≡ Within
+  pub turn_within : turn c area v k x ≡ Stops → v (area_to area x c.modules) ≡ Within
   unfolding turn
   turn_within = go (v (area_to area x c.modules)) (choice c k x (outside x)) (choice c k x x)
     where
-      go : (a : Verdict) (o i : Found) → decide a o i ≡ stops → a ≡ Within
-      go Below Nothing i e = let z : ◌≡◌ {A = ℕ} 0 1 = cc in absurd (omega arith)
-      go Below (At m) i e = let z : ◌≡◌ {A = ℕ} 0 1 = cc in absurd (omega arith)
+      go : (a : Verdict) (o i : Option ℕ) → decide a o i ≡ Stops → a ≡ Within
+      go Below None i e = let z : ◌≡◌ {A = ℕ} 0 1 = cc in absurd (omega arith)
+      go Below (Some m) i e = let z : ◌≡◌ {A = ℕ} 0 1 = cc in absurd (omega arith)
       go Within o i e = refl
-      go Above o Nothing e = let z : ◌≡◌ {A = ℕ} 0 1 = cc in absurd (omega arith)
-      go Above o (At m) e = let z : ◌≡◌ {A = ℕ} 0 1 = cc in absurd (omega arith)
+      go Above o None e = let z : ◌≡◌ {A = ℕ} 0 1 = cc in absurd (omega arith)
+      go Above o (Some m) e = let z : ◌≡◌ {A = ℕ} 0 1 = cc in absurd (omega arith)
 
 -- ---- the marks after
 
@@ -126,35 +124,35 @@ module _ (w : Way) (m : ℕ) (x : Side) (k : ℕ → ℕ) where
   after_taken z = go w
     where
       go : (w : Way) → after w m x k m ≡ number w
-      go meter = pin_takes 1 (either x (only m)) k m (or_self (x m) m) z
-      go maker = pin_takes 2 (either (outside x) (only m)) k m (or_self (not (x m)) m) z
+      go Meter = pin_takes 1 (either x (only m)) k m (or_self (x m) m) z
+      go Maker = pin_takes 2 (either (outside x) (only m)) k m (or_self (not (x m)) m) z
 
   -- nothing is set free
   pub after_free : (i : ℕ) → after w m x k i ≡ 0 → k i ≡ 0
   after_free i = go w
     where
       go : (w : Way) → after w m x k i ≡ 0 → k i ≡ 0
-      go meter e = pin_from (λ n. n ≡ 0) 1 (either x (only m)) k i e (λ z. omega arith)
-      go maker e = pin_from (λ n. n ≡ 0) 2 (either (outside x) (only m)) k i e (λ z. omega arith)
+      go Meter e = pin_from (λ n. n ≡ 0) 1 (either x (only m)) k i e (λ z. omega arith)
+      go Maker e = pin_from (λ n. n ≡ 0) 2 (either (outside x) (only m)) k i e (λ z. omega arith)
 
   pub after_three : (i : ℕ) → k i ≤ 2 → after w m x k i ≤ 2
   after_three i h = go w
     where
       go : (w : Way) → after w m x k i ≤ 2
-      go meter = pin_to (λ n. n ≤ 2) 1 (either x (only m)) k i (λ _ _. omega arith) h
-      go maker = pin_to (λ n. n ≤ 2) 2 (either (outside x) (only m)) k i (λ _ _. omega arith) h
+      go Meter = pin_to (λ n. n ≤ 2) 1 (either x (only m)) k i (λ _ _. omega arith) h
+      go Maker = pin_to (λ n. n ≤ 2) 2 (either (outside x) (only m)) k i (λ _ _. omega arith) h
 
   -- meters and makers are only added
   pub after_tightens : (c : Card) → Tightens (remark c k) k (after w m x k)
   after_tightens c = go w
     where
       go : (w : Way) → Tightens (remark c k) k (after w m x k)
-      go meter = meter_tightens (remark c k) (either x (only m))
-      go maker = maker_tightens (remark c k) (either (outside x) (only m))
+      go Meter = meter_tightens (remark c k) (either x (only m))
+      go Maker = maker_tightens (remark c k) (either (outside x) (only m))
 
 pub after_same : (w : Way) (m n : ℕ) (x y : Side) (j k : ℕ → ℕ) → Alike n x y → Alike n j k → Alike n (after w m x j) (after w m y k)
-after_same meter m n x y j k p q i l = pin_same 1 (either x (only m)) (either y (only m)) j k i (rw (p i l)) (q i l)
-after_same maker m n x y j k p q i l = pin_same 2 (either (outside x) (only m)) (either (outside y) (only m)) j k i (rw (p i l)) (q i l)
+after_same Meter m n x y j k p q i l = pin_same 1 (either x (only m)) (either y (only m)) j k i (rw (p i l)) (q i l)
+after_same Maker m n x y j k p q i l = pin_same 2 (either (outside x) (only m)) (either (outside y) (only m)) j k i (rw (p i l)) (q i l)
 
 pub after_valid : (c : Card) (w : Way) (m : ℕ) (x : Side) (k : ℕ → ℕ) → Valid (remark c k) → Valid (remark c (after w m x k))
 after_valid c w m x k q = record { pins = q.pins; marks = λ i l. after_three w m x k i (q.marks i l) }
@@ -165,7 +163,7 @@ pub free_to_same : (j k : ℕ → ℕ) (n : ℕ) → Alike n j k → free_to j n
 free_to_same j k n e = area_to_same (λ m. 1) (free j) (free k) n (λ m l. rw (e m l))
 
 -- a round that goes on leaves fewer free
-pub round_less : (c : Card) (area : ℕ → ℕ) (v : ℕ → Verdict) (k : ℕ → ℕ) (x : Side) (w : Way) (m : ℕ) → turn c area v k x ≡ takes w m →
+pub round_less : (c : Card) (area : ℕ → ℕ) (v : ℕ → Verdict) (k : ℕ → ℕ) (x : Side) (w : Way) (m : ℕ) → turn c area v k x ≡ Takes w m →
     free_to (after w m x k) c.modules < free_to k c.modules
 round_less c area v k x w m e =
     let q = turn_taken c area v k x w m e in
@@ -173,8 +171,8 @@ round_less c area v k x w m e =
     (not_T (free (after w m x k) m) (λ t. some_number w (sym (after_taken w m x k q.free) ∙ eqb→eq (after w m x k m) 0 t)))
   where
     some_number : (w : Way) → number w ≡ 0 → ⊥
-    some_number meter e = omega arith
-    some_number maker e = omega arith
+    some_number Meter e = omega arith
+    some_number Maker e = omega arith
 
 -- ---- two near sides for the same marks: the same in all that a round looks at
 

@@ -1,12 +1,12 @@
 -- The rounds of the walk as the code's loop goes: it stands at its marks with its rows written (`going_start`, `going_again`), each round has room for its row and leaves fewer modules free
--- (`going_room`, `going_less`), and the last one makes a walk of the book (`going_stops`, `going_ends`). Assumes nothing.
-use Rattle.std.specs.Prelude.{◌≡◌, ℕ, zero, suc, ◌+◌, ◌*◌, ◌<◌, ◌≤◌, Bool, true, cond, List, [], ◌∷◌, ◌++◌, length, get_or}
+-- (`going_room`, `going_less`), and the last one makes a walk of the book (`going_ended`). Assumes nothing.
+use Rattle.std.specs.Prelude.{◌≡◌, ℕ, zero, suc, ◌+◌, ◌*◌, ◌<◌, ◌≤◌, true, List, [], ◌∷◌, ◌++◌, length, get_or}
+use mathlib.Core.Logic.{◌⊎◌, ⊎_elim}
 use mathlib.Core.Path.{refl, sym, ap, ap₂, ◌∙◌, subst}
 use native.Mathlib.Nat.{le_refl}
 use native.Mathlib.Omega.{arith}
 use lib.ListN.{length-append}
 use lib.Seq.{length-paste}
-use borrow.Author.Tests.{eq-eqb, ne_eqb}
 use Rattle.line.specs.Card.{Alike, area_to, price}
 use Rattle.line.proofs.Area.{area_to_most}
 use Rattle.book.specs.Checks.{most_modules}
@@ -22,11 +22,11 @@ use Rattle.gate.specs.Gates.{band_says}
 use Rattle.gate.specs.declared.Band.{Band}
 use Rattle.gate.specs.declared.Verdict.{Verdict}
 use Rattle.walk.specs.declared.Standing.{Standing}
-use Rattle.walk.specs.Walk.{Row, found, none_left, Walks, free_to, free}
+use Rattle.walk.specs.Walk.{Way, Turn, Stops, Takes, Ends, Row, Walks, free_to, free}
 use Rattle.walk.specs.Call.{row_bytes, rows_bytes, over, room_for}
 use Rattle.walk.specs.Parts.{marks_of, over_at}
 use Rattle.walk.specs.Work.{Marked, Says, OneRound}
-use Rattle.walk.specs.Runs.{outcome_of, Ran}
+use Rattle.walk.specs.Runs.{outcome_at, outcome_of, Ran}
 use Rattle.walk.proofs.Rounds.{free_to_same}
 use Rattle.walk.proofs.Loop.{Stands, start, walks_marks, round_stops, round_ends, round_goes, round_measure, stands_room}
 use Rattle.walk.proofs.Call.{rows_length, rows_more, row-length}
@@ -63,12 +63,12 @@ pub record Going (s : List ℕ) (b : Band) (k₀ k : List ℕ) (n : ℕ) (old ne
   pub long : length new ≡ length old
   pub goes : (v : ℕ → Verdict) → Says b v → GoesOn s v k₀ k n old new
 
-module _ (s : List ℕ) (sound : Sound s) (b : Band) (k₀ : List ℕ) (old : List ℕ) where
-  pub going_start : k₀ ≡ listed (mark s) (modules s) → Going s b k₀ k₀ 0 old old
+module _ {s : List ℕ} (sound : Sound s) {b : Band} {k₀ old : List ℕ} where
+  pub going_start : {n : ℕ} → n ≡ 0 → k₀ ≡ listed (mark s) (modules s) → Going s b k₀ k₀ n old old
   unfolding rows_bytes
-  going_start e = record { begins = e; marked = loaded_marked s k₀ sound e; long = refl; goes = λ v h. record { rounds = []; stands = start; count = refl; bytes = refl } }
+  going_start z e = record { begins = e; marked = loaded_marked s k₀ sound e; long = refl; goes = λ v h. record { rounds = []; stands = start; count = z; bytes = refl } }
 
-  module _ (k : List ℕ) (n : ℕ) (new : List ℕ) (g : Going s b k₀ k n old new) where
+  module _ {k : List ℕ} {n : ℕ} {new : List ℕ} (g : Going s b k₀ k n old new) where
     plain : GoesOn s (band_says b) k₀ k n old new
     plain = g.goes (band_says b) (λ a l. refl)
 
@@ -82,29 +82,29 @@ module _ (s : List ℕ) (sound : Sound s) (b : Band) (k₀ : List ℕ) (old : Li
     pub going_few : n ≤ most_modules
     going_few = omega (arith, spent, area_to_most (λ m. 1) (free (mark s)) (modules s), ones (modules s), sound.few_modules)
 
-    module _ (x : List ℕ) (r : Row) (l : List ℕ) (o : OneRound s b k x r l) (room : room_for s ≤ length old) (new' : List ℕ) (put : new' ≡ over_at (12 * n) (row_bytes r) new) where
+    module _ {x : List ℕ} {r : Row} {l : List ℕ} (o : OneRound s b k x r l) (room : room_for s ≤ length old) {new' : List ℕ} (put : new' ≡ over_at (12 * n) (row_bytes r) new) where
       -- with its row written
       bytes : (v : ℕ → Verdict) (h : Says b v) → new' ≡ over (rows_bytes ((g.goes v h).rounds ++ (r ∷ []))) old
       bytes v h =
           let q = g.goes v h in
           put ∙ ap₂ (λ (i : ℕ) (l : List ℕ). over_at (12 * i) (row_bytes r) l) q.count q.bytes ∙ row_after q.rounds r old (omega (arith, going_room room, q.count, g.long))
 
-      pub going_again : (i : ℕ) → i ≡ n + 1 → ¬ (r.way ≡ 0) → ¬ (r.way ≡ 3) → Going s b k₀ l i old new'
-      going_again i e f t = record {
+      pub going_again : {i : ℕ} → i ≡ n + 1 → (w : Way) (m : ℕ) → r.turn ≡ Takes w m → Going s b k₀ l i old new'
+      going_again e w m z = record {
         begins = g.begins;
         marked = o.marked;
         long = ap length put ∙ length-paste new (12 * n) (row_bytes r) (length (row_bytes r)) (omega (arith, going_room room, row-length r)) (le_refl (length (row_bytes r))) ∙ g.long;
         goes = λ v h. let q = g.goes v h in record {
           rounds = q.rounds ++ (r ∷ []);
-          stands = round_goes (card_of s) (card_valid s sound) (area s) v (marks_of k₀) q.rounds (marks_of k) q.stands (side_of x) r (marks_of l) (o.round v h) f t;
+          stands = round_goes (card_of s) (card_valid s sound) (area s) v (marks_of k₀) q.rounds (marks_of k) q.stands (side_of x) r (marks_of l) (o.round v h) w m z;
           count = omega (arith, e, q.count, length-append q.rounds (r ∷ []));
           bytes = bytes v h;
         };
       }
 
-      pub going_less : ¬ (r.way ≡ 0) → ¬ (r.way ≡ 3) → free_to (marks_of l) (modules s) < free_to (marks_of k) (modules s)
-      going_less f t =
-          round_measure (card_of s) (card_valid s sound) (area s) (band_says b) (marks_of k₀) plain.rounds (marks_of k) plain.stands (side_of x) r (marks_of l) (o.round (band_says b) (λ a l. refl)) f t
+      pub going_less : (w : Way) (m : ℕ) → r.turn ≡ Takes w m → free_to (marks_of l) (modules s) < free_to (marks_of k) (modules s)
+      going_less w m z =
+          round_measure (card_of s) (card_valid s sound) (area s) (band_says b) (marks_of k₀) plain.rounds (marks_of k) plain.stands (side_of x) r (marks_of l) (o.round (band_says b) (λ a l. refl)) w m z
 
       ended : (w : Standing) → w.row ≡ r → w.x ≡ x → w.rounds ≡ n + 1 →
           ((v : ℕ → Verdict) (h : Says b v) → Walks (card_of s) (area s) v (marks_of k₀) ((g.goes v h).rounds ++ (r ∷ [])) (outcome_of w)) → Ran s b old new' w
@@ -117,16 +117,21 @@ module _ (s : List ℕ) (sound : Sound s) (b : Band) (k₀ : List ℕ) (old : Li
         spare = subst (λ (x : List ℕ). SpareClear x (modules s)) (sym f) o.spare;
       }
 
-      pub going_stops : (w : Standing) → w.row ≡ r → w.x ≡ x → w.rounds ≡ n + 1 → r.way ≡ 0 → Ran s b old new' w
-      going_stops w e f i z = ended w e f i (λ v h.
-          let q = g.goes v h in
-          let t : outcome_of w ≡ found (side_of x) = ap (λ (d : Bool). cond d (found (side_of w.x)) none_left) (eq-eqb w.row.way 0 (ap (λ (r : Row). r.way) e ∙ z)) ∙ ap (λ (x : List ℕ). found (side_of x)) f in
-          subst (Walks (card_of s) (area s) v (marks_of k₀) (q.rounds ++ (r ∷ []))) (sym t)
-          (round_stops (card_of s) (card_valid s sound) (area s) v (marks_of k₀) q.rounds (marks_of k) q.stands (side_of x) r (marks_of l) (o.round v h) z))
+      -- it stopped, or it ended with 14
+      pub going_ended : (w : Standing) → w.row ≡ r → w.x ≡ x → w.rounds ≡ n + 1 → (r.turn ≡ Stops) ⊎ (r.turn ≡ Ends) → Ran s b old new' w
+      going_ended w e f i d = ended w e f i (λ v h. ⊎_elim (stops v h) (ends v h) d)
+        where
+          comes : (t : Turn) → r.turn ≡ t → outcome_of w ≡ outcome_at t (side_of x)
+          comes t z = ap₂ (λ (t : Turn) (x : List ℕ). outcome_at t (side_of x)) (ap (λ (r : Row). r.turn) e ∙ z) f
 
-      pub going_ends : (w : Standing) → w.row ≡ r → w.x ≡ x → w.rounds ≡ n + 1 → r.way ≡ 3 → Ran s b old new' w
-      going_ends w e f i z = ended w e f i (λ v h.
-          let q = g.goes v h in
-          let t : outcome_of w ≡ none_left = ap (λ (d : Bool). cond d (found (side_of w.x)) none_left) (ne_eqb w.row.way 0 (λ y. omega (arith, ap (λ (r : Row). r.way) e, z, y))) in
-          subst (Walks (card_of s) (area s) v (marks_of k₀) (q.rounds ++ (r ∷ []))) (sym t)
-          (round_ends (card_of s) (card_valid s sound) (area s) v (marks_of k₀) q.rounds (marks_of k) q.stands (side_of x) r (marks_of l) (o.round v h) z))
+          stops : (v : ℕ → Verdict) (h : Says b v) → r.turn ≡ Stops → Walks (card_of s) (area s) v (marks_of k₀) ((g.goes v h).rounds ++ (r ∷ [])) (outcome_of w)
+          stops v h z =
+              let q = g.goes v h in
+              subst (Walks (card_of s) (area s) v (marks_of k₀) (q.rounds ++ (r ∷ []))) (sym (comes Stops z))
+              (round_stops (card_of s) (card_valid s sound) (area s) v (marks_of k₀) q.rounds (marks_of k) q.stands (side_of x) r (marks_of l) (o.round v h) z)
+
+          ends : (v : ℕ → Verdict) (h : Says b v) → r.turn ≡ Ends → Walks (card_of s) (area s) v (marks_of k₀) ((g.goes v h).rounds ++ (r ∷ [])) (outcome_of w)
+          ends v h z =
+              let q = g.goes v h in
+              subst (Walks (card_of s) (area s) v (marks_of k₀) (q.rounds ++ (r ∷ []))) (sym (comes Ends z))
+              (round_ends (card_of s) (card_valid s sound) (area s) v (marks_of k₀) q.rounds (marks_of k) q.stands (side_of x) r (marks_of l) (o.round v h) z)

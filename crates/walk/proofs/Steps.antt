@@ -1,9 +1,8 @@
 -- From what the parts of a round ensure to the round. Assumes nothing.
-use Rattle.std.specs.Prelude.{◌≡◌, ℕ, ◌<◌, ◌≤◌, Bool, true, false, not, ◌&&◌, List, ◌++◌, length, get_or, take, ℤ}
+use Rattle.std.specs.Prelude.{◌≡◌, ℕ, ◌<◌, ◌≤◌, Bool, true, ◌&&◌, List, length, get_or, ℤ, Some}
 use mathlib.Core.Path.{refl, sym, ap, ap₂, ◌∙◌, subst}
 use native.Mathlib.Omega.{arith}
-use lib.Seq.{take_at}
-use Rattle.line.specs.Card.{Side, Alike, either, price}
+use Rattle.line.specs.Card.{Side, Alike, outside, either, price}
 use Rattle.line.specs.Flow.{only}
 use Rattle.line.proofs.Below.{near_alike}
 use Rattle.book.specs.Checks.{most_modules}
@@ -11,7 +10,6 @@ use Rattle.book.specs.First.{or_else, lowest}
 use Rattle.book.specs.Format.{modules, nets, pins, weight, pin}
 use Rattle.book.specs.Sound.{Sound}
 use Rattle.book.specs.Cards as book
-use Rattle.book.specs.declared.Found.TheVariants.{At, Nothing}
 use Rattle.book.proofs.Firsts.{lowest_same}
 use Rattle.book.proofs.Elements.{length_listed}
 use Rattle.side.specs.Sides as sides
@@ -22,12 +20,11 @@ use Rattle.flow.proofs.CardLaws.{card_valid}
 use Rattle.gate.specs.Gates.{band_says}
 use Rattle.gate.specs.declared.Band.{Band}
 use Rattle.gate.specs.declared.Verdict.{Verdict}
-use Rattle.gate.specs.declared.Verdict.TheVariants.{Below, Within, Above}
 use Rattle.split.specs.Writes.{Written}
 use Rattle.split.proofs.SameCard.{near_slices, slices_laid}
-use Rattle.walk.specs.Walk.{Turn, stops, takes, ends, Row, number, on_cut, free_in, choice, taking, turn, taken_of, way_of, after, after_turn}
+use Rattle.walk.specs.Walk.{Way, Meter, Maker, Turn, Stops, Takes, Row, number, on_cut, free_in, choice, decide, turn, after}
 use Rattle.walk.specs.Parts.{side_from, marks_of, free_in_row, choice_in, CutRow, Pinned}
-use Rattle.walk.specs.Work.{Ground, NearRow, Loaded, Marked, way_from, taking_from, Turned, Says, turn_of, Stepped, OneRound}
+use Rattle.walk.specs.Work.{Ground, NearRow, Loaded, Marked, is_meter, Pins, turn_of, Stepped, OneRound}
 use Rattle.walk.proofs.Rounds.{choice_taken, after_three}
 
 -- ---- the near side
@@ -55,63 +52,34 @@ choice_row s k x y old cut e c =
 
 -- ---- the marks after
 
-way_marks : (b : Bool) (s k l : List ℕ) (x : Side) (m : ℕ) → length k ≡ modules s → Pinned (number (way_from b)) (either (side_from b x) (only m)) (length k) k l →
-    Alike (modules s) (after (way_from b) m x (marks_of k)) (marks_of l)
-way_marks true s k l x m e p i u = sym (p.done i (omega (arith, e)))
-way_marks false s k l x m e p i u = sym (p.done i (omega (arith, e)))
+way_marks : (w : Way) (s k l : List ℕ) (x : Side) (m : ℕ) → length k ≡ modules s → Pinned (number w) (either (side_from (is_meter w) x) (only m)) (length k) k l →
+    Alike (modules s) (after w m x (marks_of k)) (marks_of l)
+way_marks Meter s k l x m e p i u = sym (p.done i (omega (arith, e)))
+way_marks Maker s k l x m e p i u = sym (p.done i (omega (arith, e)))
 
-module _ (s k : List ℕ) (x : Side) (b : Bool) (marked : Marked s k) (price area : ℕ) where
-  pub takes_turned : (l : List ℕ) (m to : ℕ) (r : Row) → choice (book.card_of s) (marks_of k) x (side_from (not b) x) ≡ At m → to ≡ number (way_from b) →
-      Pinned to (either (side_from b x) (only m)) (length k) k l → r ≡ record { price = price; area = area; taken = m; way = to } →
-      Turned s k x price area (taking_from s (marks_of k) x b) r l
-  takes_turned l m to r e f p q =
-      let t : taking_from s (marks_of k) x b ≡ takes (way_from b) m = ap (taking (way_from b)) e in
-      let a : Alike (modules s) (after (way_from b) m x (marks_of k)) (marks_of l) = way_marks b s k l x m marked.long (subst (λ (n : ℕ). Pinned n (either (side_from b x) (only m)) (length k) k l) f p) in
+module _ (s k : List ℕ) (x : Side) (marked : Marked s k) where
+  pub takes_pins : (w : Way) (l : List ℕ) (m : ℕ) → Pinned (number w) (either (side_from (is_meter w) x) (only m)) (length k) k l → Pins s k x (Takes w m) l
+  takes_pins w l m p =
+      let a : Alike (modules s) (after w m x (marks_of k)) (marks_of l) = way_marks w s k l x m marked.long p in
       record {
-        row = q ∙ ap (λ (n : ℕ). record { price = price; area = area; taken = m; way = n }) f
-            ∙ ap (λ (t : Turn). record { price = price; area = area; taken = taken_of t; way = way_of t }) (sym t);
-        marks = subst (λ (t : Turn). Alike (modules s) (after_turn t x (marks_of k)) (marks_of l)) (sym t) a;
-        marked = record { long = p.long ∙ marked.long; low = λ i u. subst (λ (n : ℕ). n ≤ 2) (a i u) (after_three (way_from b) m x (marks_of k) i (marked.low i u)) };
+        marks = a;
+        marked = record { long = p.long ∙ marked.long; low = λ i u. subst (λ (n : ℕ). n ≤ 2) (a i u) (after_three w m x (marks_of k) i (marked.low i u)) };
       }
 
-  pub ends_turned : (r : Row) → choice (book.card_of s) (marks_of k) x (side_from (not b) x) ≡ Nothing → r ≡ record { price = price; area = area; taken = 65535; way = 3 } →
-      Turned s k x price area (taking_from s (marks_of k) x b) r k
-  ends_turned r e q =
-      let t : taking_from s (marks_of k) x b ≡ ends = ap (taking (way_from b)) e in
-      record {
-        row = q ∙ ap (λ (t : Turn). record { price = price; area = area; taken = taken_of t; way = way_of t }) (sym t);
-        marks = subst (λ (t : Turn). Alike (modules s) (after_turn t x (marks_of k)) (marks_of k)) (sym t) (λ i u. refl);
-        marked = marked;
-      }
+  pub stops_pins : Pins s k x Stops k
+  stops_pins = record { marks = λ i u. refl; marked = marked }
 
-pub taken_small : (s : List ℕ) → Sound s → (k : List ℕ) (x y : Side) (m : ℕ) → choice (book.card_of s) (marks_of k) x y ≡ At m → m < most_modules
+pub taken_small : (s : List ℕ) → Sound s → (k : List ℕ) (x y : Side) (m : ℕ) → choice (book.card_of s) (marks_of k) x y ≡ Some m → m < most_modules
 taken_small s h k x y m e = omega (arith, (choice_taken (book.card_of s) (marks_of k) x y m e).under, h.few_modules)
 
 -- ---- what the band says
 
-module _ (s k l : List ℕ) (x : Side) (band : Band) (p a : ℕ) (r : Row) (w : Verdict) (e : p ≡ price (book.nets_of s) x) (f : a ≡ book.area_of s x) (small : a ≤ most_area)
-    (said : w ≡ band_says band a) where
-  says : (v : ℕ → Verdict) → Says band v → w ≡ v (book.area_of s x)
-  says v h = said ∙ h a small ∙ ap v f
-
-  carried : (t : Turn) → Turned s k x p a t r l → Turned s k x (price (book.nets_of s) x) (book.area_of s x) t r l
-  carried t q = record { row = q.row ∙ ap₂ (λ (i j : ℕ). record { price = i; area = j; taken = taken_of t; way = way_of t }) e f; marks = q.marks; marked = q.marked }
-
-  stepped : (t : Turn) → Turned s k x p a t r l → ((v : ℕ → Verdict) → Says band v → t ≡ turn_of s v k x) → Stepped s band k x r l
-  stepped t q g v h = subst (λ (t : Turn). Turned s k x (price (book.nets_of s) x) (book.area_of s x) t r l) (g v h) (carried t q)
-
-  pub step_below : w ≡ Below → Turned s k x p a (taking_from s (marks_of k) x true) r l → Stepped s band k x r l
-  unfolding turn
-  step_below z q = stepped (taking_from s (marks_of k) x true) q (λ v h. let u : v (book.area_of s x) ≡ Below = sym (says v h) ∙ z in rw u)
-
-  pub step_above : w ≡ Above → Turned s k x p a (taking_from s (marks_of k) x false) r l → Stepped s band k x r l
-  unfolding turn
-  step_above z q = stepped (taking_from s (marks_of k) x false) q (λ v h. let u : v (book.area_of s x) ≡ Above = sym (says v h) ∙ z in rw u)
-
-  pub step_within : w ≡ Within → Marked s l → l ≡ k → r ≡ record { price = p; area = a; taken = 65535; way = 0 } → Stepped s band k x r l
-  unfolding turn
-  step_within z m i q =
-      stepped stops (record { row = q; marks = λ j u. ap (λ (l : List ℕ). marks_of l j) (sym i); marked = m }) (λ v h. let u : v (book.area_of s x) ≡ Within = sym (says v h) ∙ z in rw u)
+pub stepped : {s k l : List ℕ} {x : Side} (band : Band) {p a : ℕ} {w : Verdict} {t : Turn} → p ≡ price (book.nets_of s) x → a ≡ book.area_of s x → a ≤ most_area → w ≡ band_says band a →
+    t ≡ decide w (choice (book.card_of s) (marks_of k) x (outside x)) (choice (book.card_of s) (marks_of k) x x) → Pins s k x t l → Stepped s band k x (record { price = p; area = a; turn = t }) l
+unfolding turn
+stepped {s} {k} {l} {x} band {a = a} {t = t} e f small said d q v h =
+    let g : t ≡ turn_of s v k x = d ∙ ap (λ (u : Verdict). decide u (choice (book.card_of s) (marks_of k) x (outside x)) (choice (book.card_of s) (marks_of k) x x)) (said ∙ h a small ∙ ap v f) in
+    record { row = λ i. record { price = e i; area = f i; turn = g i }; pins = subst (λ (t : Turn). Pins s k x t l) g q }
 
 -- ---- the round
 
@@ -138,14 +106,8 @@ module _ (s fs ms ws nt at pl mk : List ℕ) (g : Loaded s fs ms ws nt at pl) (m
     round = λ v h. let q = t v h in record {
       near = near_slices s g.sound mk (marks_of mk) marked.long alike (sides.side_of x) (rw (← g.firsts, ← g.mods, ← g.weights) n.near);
       written = q.row;
-      marks = q.marks;
+      marks = q.pins.marks;
     };
     spare = subst (λ (k : ℕ). sides.SpareClear x k) marked.long n.spare;
     marked = m;
   }
-
--- the marks of the book's modules were lent, out of more
-pub round_lent : (s : List ℕ) (band : Band) (n : ℕ) (k x : List ℕ) (r : Row) (l rest : List ℕ) → n ≡ modules s → OneRound s band (take n k) x r l →
-    OneRound s band (take (modules s) k) x r (take (modules s) (l ++ rest))
-round_lent s band n k x r l rest e o =
-    subst (OneRound s band (take (modules s) k) x r) (sym (take_at l rest (modules s) o.marked.long)) (subst (λ (n : ℕ). OneRound s band (take n k) x r l) e o)

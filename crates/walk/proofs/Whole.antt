@@ -1,5 +1,5 @@
--- From the walk as it ended to what the call leaves (`wrote`), by way of its checks (`bad_gate`, `short_buffer`, `passed`, `read_refuses`, `read_good`). Assumes nothing.
-use Rattle.std.specs.Prelude.{◌≡◌, ℕ, ◌≤◌, Bool, true, false, cond, eqb, ltb, List, length}
+-- From the walk as it ended to what the call leaves (`wrote`), by way of its checks (`long_enough`, `read_refuses`, `read_good`). Assumes nothing.
+use Rattle.std.specs.Prelude.{◌≡◌, ℕ, ◌≤◌, false, ltb, List, length, Result, Ok, Err}
 use mathlib.Core.Path.{ap, ap₂, ◌∙◌}
 use native.Mathlib.Omega.{arith}
 use borrow.Author.Tests.{ltb-false}
@@ -10,24 +10,22 @@ use Rattle.book.specs.Format.{modules, area}
 use Rattle.book.specs.Cards.{card_of, nets_of}
 use Rattle.book.specs.Sound.{Sound}
 use Rattle.book.specs.declared.Book.{Book}
-use Rattle.book.specs.declared.Reading.TheVariants.{Good}
-use Rattle.book.specs.declared.Reading.TheVariants as reading
 use Rattle.book.specs.declared.Refusal.{Refusal}
-use Rattle.book.specs.declared.Refusal.TheVariants as refusal
 use Rattle.side.specs.Given.{Lent}
 use Rattle.side.specs.Sides.{side_of, bytes_for}
-use Rattle.gate.specs.Gates.{good_gate, band_of, band_says, gate_says}
+use Rattle.gate.specs.Gates.{band_of, band_says, gate_says}
 use Rattle.gate.specs.declared.Band.{Band}
 use Rattle.gate.specs.declared.Gate.{Gate}
 use Rattle.gate.proofs.Areas.{band-says}
-use Rattle.walk.specs.declared.Answered.{Answered}
-use Rattle.walk.specs.declared.Answered.TheVariants.{Done, Stuck, Refused}
+use Rattle.walk.specs.declared.Done.{Done}
+use Rattle.walk.specs.declared.NotDone.{NotDone}
+use Rattle.walk.specs.declared.NotDone.TheVariants.{Stuck, Refused}
 use Rattle.walk.specs.declared.Standing.{Standing}
-use Rattle.walk.specs.Walk.{Row, answer, found, none_left}
+use Rattle.walk.specs.Walk.{Turn, Stops, Takes, Ends, Row, answer}
 use Rattle.walk.specs.Call.{room_for, too_short, checked_sound, checked_of, Left, Written, Comes, Walked}
 use Rattle.walk.specs.Work.{Says}
-use Rattle.walk.specs.Runs.{outcome_of, Ran}
-use Rattle.walk.specs.Answer.{numbers_of, left_by, answered_of, Finished}
+use Rattle.walk.specs.Runs.{outcome_at, outcome_of, Ran}
+use Rattle.walk.specs.Answer.{numbers_of, left_by, answered_at, answered_of, Finished}
 
 -- the band stands for the gate
 says : (g : Gate) (w t : ℕ) (b : Band) → b ≡ band_of g w → w ≡ t → Says b (gate_says g t)
@@ -35,13 +33,14 @@ says g w t b e f a h = ap (λ (b : Band). band_says b a) e ∙ band-says g w a (
 
 module _ (s : List ℕ) (w : Standing) (rs : List Row) (count : w.rounds ≡ length rs) (cost : w.row.price ≡ price (nets_of s) (side_of w.x)) where
   numbers : numbers_of (answered_of w) ≡ answer (card_of s) rs (outcome_of w)
-  numbers = go (eqb w.row.way 0)
+  numbers = go w.row.turn
     where
-      go : (b : Bool) → numbers_of (cond b (Done w.row.price w.rounds) (Stuck w.rounds)) ≡ answer (card_of s) rs (cond b (found (side_of w.x)) none_left)
-      go true = ap₂ (λ (p n : ℕ). numbers_of (Done p n)) cost count
-      go false = ap (λ (n : ℕ). numbers_of (Stuck n)) count
+      go : (t : Turn) → numbers_of (answered_at t w.row.price w.rounds) ≡ answer (card_of s) rs (outcome_at t (side_of w.x))
+      go Stops = ap₂ (λ (p n : ℕ). numbers_of (Ok (record { price = p; rounds = n }))) cost count
+      go (Takes y m) = ap (λ (n : ℕ). numbers_of (Err (Stuck n))) count
+      go Ends = ap (λ (n : ℕ). numbers_of (Err (Stuck n))) count
 
-pub wrote : (s : List ℕ) (g : Gate) (t : ℕ) (b : Band) (side rows side' rows' : List ℕ) (w : Standing) (r : Answered) → b ≡ band_of g t → t ≡ whole_area (card_of s) (area s) →
+pub wrote : (s : List ℕ) (g : Gate) (t : ℕ) (b : Band) (side rows side' rows' : List ℕ) (w : Standing) (r : Result Done NotDone) → b ≡ band_of g t → t ≡ whole_area (card_of s) (area s) →
     Ran s b rows rows' w → Finished s w side side' r → Written s g side rows (left_by r side' rows')
 wrote s g t b side rows side' rows' w r e f ran fin =
     let q = ran (gate_says g (whole_area (card_of s) (area s))) (says g t (whole_area (card_of s) (area s)) b e f) in
@@ -49,20 +48,11 @@ wrote s g t b side rows side' rows' w r e f ran fin =
     record { rounds = q.rounds; outcome = outcome_of w; walks = q.walks; left = λ i. record { answer = n i; side = fin.side i; rows = q.bytes i } }
 
 module _ (s : List ℕ) (g : Gate) (side rows : List ℕ) (a : Left) where
-  pub bad_gate : good_gate g ≡ false → a ≡ left_by (Refused refusal.Gate) side rows → Comes (checked_sound s g side rows) s g side rows a
-  bad_gate e h = rw e h
-
-  pub short_buffer : good_gate g ≡ true → too_short s side rows ≡ true → a ≡ left_by (Refused refusal.Buffer) side rows → Comes (checked_sound s g side rows) s g side rows a
-  short_buffer e f h = rw (e, f) h
-
-  pub passed : good_gate g ≡ true → too_short s side rows ≡ false → Written s g side rows a → Comes (checked_sound s g side rows) s g side rows a
-  passed e f h = rw (e, f) h
-
-  pub read_good : (b : Book) → read_of s ≡ Good b → Comes (checked_sound s g side rows) s g side rows a → Walked s g side rows a
+  pub read_good : (b : Book) → read_of s ≡ Ok b → Comes (checked_sound s g side rows) s g side rows a → Walked s g side rows a
   unfolding checked_of
   read_good b e h = rw e h
 
-  pub read_refuses : (why : Refusal) → read_of s ≡ reading.Refused why → a ≡ left_by (Refused why) side rows → Walked s g side rows a
+  pub read_refuses : (why : Refusal) → read_of s ≡ Err why → a ≡ left_by (Err (Refused why)) side rows → Walked s g side rows a
   unfolding checked_of
   read_refuses why e h = rw e h
 

@@ -1,5 +1,6 @@
 -- The walk's call, in the words of document 01: what it answers, and what each lent buffer holds afterwards, whatever came in. This page holds definitions only.
-use Rattle.std.specs.Prelude.{◌≡◌, ℕ, zero, suc, ◌+◌, ◌*◌, ◌/◌, ◌%◌, Bool, true, false, cond, not, ◌&&◌, ◌||◌, List, [], ◌∷◌, ◌++◌, length, drop, nat_lt}
+use Rattle.book.specs.declared.Book.{Book}
+use Rattle.std.specs.Prelude.{◌≡◌, ℕ, zero, suc, ◌+◌, ◌*◌, ◌/◌, ◌%◌, Bool, true, false, cond, not, ◌&&◌, ◌||◌, List, [], ◌∷◌, ◌++◌, length, drop, nat_lt, Result, Ok, Err}
 use Rattle.line.specs.Card.{Side, whole_area}
 use Rattle.book.specs.Listed.{listed}
 use Rattle.book.specs.Format.{modules, area, mark}
@@ -8,12 +9,10 @@ use Rattle.book.specs.Cards.{card_of}
 use Rattle.book.specs.Answer.{number_of, place_of}
 use Rattle.book.specs.declared.Refusal.{Refusal}
 use Rattle.book.specs.declared.Refusal.TheVariants as refusal
-use Rattle.book.specs.declared.Reading.{Reading}
-use Rattle.book.specs.declared.Reading.TheVariants.{Good, Refused}
 pub use Rattle.side.specs.Sides.{bytes_for}
 use Rattle.gate.specs.Gates.{good_gate, gate_says}
 use Rattle.gate.specs.declared.Gate.{Gate}
-use Rattle.walk.specs.Walk.{Row, Outcome, found, none_left, free_to, Walks, Answer, answer}
+use Rattle.walk.specs.Walk.{Row, taken_of, way_of, Outcome, found, none_left, free_to, Walks, Answer, answer}
 
 -- ---- The lent buffers.
 
@@ -24,7 +23,7 @@ little_endian (suc w) n = n % 256 ∷ little_endian w (n / 256)
 
 -- A row of 12 bytes: price u32, area of X u32, module taken u16, way u16.
 unfoldable pub row_bytes : Row → List ℕ
-row_bytes r = little_endian 4 r.price ++ little_endian 4 r.area ++ little_endian 2 r.taken ++ little_endian 2 r.way
+row_bytes r = little_endian 4 r.price ++ little_endian 4 r.area ++ little_endian 2 (taken_of r.turn) ++ little_endian 2 (way_of r.turn)
 
 -- Each round writes a row.
 unfoldable pub rows_bytes : List Row → List ℕ
@@ -57,20 +56,20 @@ room_for s = 12 * (free_to (mark s) (modules s) + 1)
 unfoldable pub too_short : List ℕ → List ℕ → List ℕ → Bool
 too_short s side rows = nat_lt (length side) (bytes_for (modules s)) || nat_lt (length rows) (room_for s)
 
-abbrev pub refuse_if : Bool → Refusal → Reading → Reading
-refuse_if true r rest = Refused r
+abbrev pub refuse_if : Bool → Refusal → Result Book Refusal → Result Book Refusal
+refuse_if true r rest = Err r
 refuse_if false r rest = rest
 
-abbrev pub if_read : Reading → Reading → Reading
-if_read (Good b) rest = rest
-if_read (Refused r) rest = Refused r
+abbrev pub if_read : Result Book Refusal → Result Book Refusal → Result Book Refusal
+if_read (Ok b) rest = rest
+if_read (Err r) rest = Err r
 
 -- Checks 7 and 8 of a book that reads.
-abbrev pub checked_sound : List ℕ → Gate → List ℕ → List ℕ → Reading
-checked_sound s g side rows = refuse_if (not (good_gate g)) refusal.Gate (refuse_if (too_short s side rows) refusal.Buffer (Good (book_of s)))
+abbrev pub checked_sound : List ℕ → Gate → List ℕ → List ℕ → Result Book Refusal
+checked_sound s g side rows = refuse_if (not (good_gate g)) refusal.Gate (refuse_if (too_short s side rows) refusal.Buffer (Ok (book_of s)))
 
 -- All calls start with checks 1 to 6; then the walk makes 7 and 8.
-unfoldable pub checked_of : List ℕ → Gate → List ℕ → List ℕ → Reading
+unfoldable pub checked_of : List ℕ → Gate → List ℕ → List ℕ → Result Book Refusal
 checked_of s g side rows = if_read (read_of s) (checked_sound s g side rows)
 
 -- ---- What the call leaves: the numbers of its answer, and the lent bytes.
@@ -102,9 +101,9 @@ pub record Written (s : List ℕ) (g : Gate) (side rows : List ℕ) (a : Left) :
   pub walks : BookWalks s g rounds outcome
   pub left : a ≡ written s rounds outcome side rows
 
-abbrev pub Comes : Reading → List ℕ → Gate → List ℕ → List ℕ → Left → Type 0
-Comes (Refused r) s g side rows a = a ≡ refused r side rows
-Comes (Good b) s g side rows a = Written s g side rows a
+abbrev pub Comes : Result Book Refusal → List ℕ → Gate → List ℕ → List ℕ → Left → Type 0
+Comes (Err r) s g side rows a = a ≡ refused r side rows
+Comes (Ok b) s g side rows a = Written s g side rows a
 
 -- The statement of the walk's call on the book s, with the gate g and the lent side and rows: a is all that it leaves.
 abbrev pub Walked : List ℕ → Gate → List ℕ → List ℕ → Left → Type 0

@@ -1,11 +1,10 @@
 -- What the parts of a round leave in their rows of bytes. This page holds definitions only.
-use Rattle.std.specs.Prelude.{◌≡◌, ℕ, ◌<◌, Bool, true, false, ◌&&◌, ◌||◌, List, length, slice_index}
+use Rattle.std.specs.Prelude.{◌≡◌, ℕ, ◌<◌, Bool, true, false, ◌&&◌, ◌||◌, List, length, slice_index, Option}
 use Rattle.std.proofs.Math.Seq.{paste}
 use Rattle.line.specs.Card.{Side, outside, touches, crosses, pin}
 use Rattle.line.specs.Flow.{only}
 use Rattle.book.specs.First.{or_else, lowest}
 use Rattle.book.specs.Cards.{net_of, nets_of, pins_of}
-use Rattle.book.specs.declared.Found.{Found}
 use Rattle.side.specs.Sides.{side_of}
 use Rattle.walk.specs.Walk.{on_cut, free_in}
 
@@ -44,7 +43,7 @@ pub record CutRow (s : List ℕ) (x : Side) (old new : List ℕ) : Type 0 where
 abbrev pub free_in_row : List ℕ → Side → List ℕ → ℕ → Bool
 free_in_row k y cut m = free_in (marks_of k) y m && side_of cut m
 
-abbrev pub choice_in : List ℕ → Side → List ℕ → Found
+abbrev pub choice_in : List ℕ → Side → List ℕ → Option ℕ
 choice_in k y cut = or_else (lowest (free_in_row k y cut) (length k)) (lowest (free_in (marks_of k) y) (length k))
 
 -- The free modules of y below i are pinned to n, and the other marks are as they were.

@@ -1,25 +1,19 @@
 -- The balancing walk, in the words of document 01. This page holds definitions only.
-use Rattle.std.specs.Prelude.{◌≡◌, ℕ, Bool, false, ◌&&◌, ◌||◌, List, [], ◌∷◌, length, ◌==◌}
+use Rattle.std.specs.Prelude.{◌≡◌, ℕ, Bool, false, ◌&&◌, ◌||◌, List, [], ◌∷◌, length, ◌==◌, Option, Some, None}
 use Rattle.line.specs.Card.{Net, Card, Side, outside, either, touches, crosses, price, Near, Alike, area_to, count_to, remark, pin}
 use Rattle.line.specs.Flow.{only}
 use Rattle.book.specs.First.{or_else, lowest}
 use Rattle.book.specs.Answer.{number_of, place_of}
-use Rattle.book.specs.declared.Found.{Found}
-use Rattle.book.specs.declared.Found.TheVariants.{At, Nothing}
 use Rattle.book.specs.declared.Refusal.TheVariants.{Stuck}
 use Rattle.gate.specs.declared.Verdict.{Verdict}
+pub use Rattle.walk.specs.declared.Way.{Way}
+pub use Rattle.walk.specs.declared.Way.TheVariants.{Meter, Maker}
+pub use Rattle.walk.specs.declared.Turn.{Turn}
+pub use Rattle.walk.specs.declared.Turn.TheVariants.{Stops, Takes, Ends}
 pub use Rattle.walk.specs.declared.Row.{Row}
 use Rattle.gate.specs.declared.Verdict.TheVariants.{Below, Within, Above}
 
--- A round pins to the meter, or to the maker.
-pub data Way : Type 0 where
-  meter maker : Way
-
--- It stops; it takes a module and pins; or it ends with 14.
-pub data Turn : Type 0 where
-  stops : Turn
-  takes : Way → ℕ → Turn
-  ends : Turn
+-- A round pins to the meter, or to the maker (`Way`). It stops; it takes a module and pins; or it ends with 14 (`Turn`). Both are the enums of the code.
 
 -- ---- One round. X, here x, is the near side for the modules now pinned, which the marks k say.
 
@@ -37,19 +31,19 @@ abbrev pub free_in : (ℕ → ℕ) → Side → Side
 free_in k y m = y m && free k m
 
 -- The module taken is the lowest-numbered free one on that side with a pin on a net that X cuts; if none has, the lowest-numbered free one on that side.
-unfoldable pub choice : Card → (ℕ → ℕ) → Side → Side → Found
+unfoldable pub choice : Card → (ℕ → ℕ) → Side → Side → Option ℕ
 choice c k x y = or_else (lowest (λ m. free_in k y m && on_cut c.nets x m) c.modules) (lowest (free_in k y) c.modules)
 
 -- If none at all, end with 14.
-abbrev pub taking : Way → Found → Turn
-taking w Nothing = ends
-taking w (At m) = takes w m
+abbrev pub taking : Way → Option ℕ → Turn
+taking w None = Ends
+taking w (Some m) = Takes w m
 
 -- Area of X within the gate: stop. Below low: to the meter, and one free module outside X. Above high: to the maker, and one free module inside X.
-abbrev pub decide : Verdict → Found → Found → Turn
-decide Below out inn = taking meter out
-decide Within out inn = stops
-decide Above out inn = taking maker inn
+abbrev pub decide : Verdict → Option ℕ → Option ℕ → Turn
+decide Below out inn = taking Meter out
+decide Within out inn = Stops
+decide Above out inn = taking Maker inn
 
 -- What a round comes to, where v is what the gate says of an area.
 unfoldable pub turn : Card → (ℕ → ℕ) → (ℕ → Verdict) → (ℕ → ℕ) → Side → Turn
@@ -57,36 +51,36 @@ turn c area v k x = decide (v (area_to area x c.modules)) (choice c k x (outside
 
 -- The marks after a round: all of X and the module taken to the meter, or all outside X and the module taken to the maker.
 abbrev pub after : Way → ℕ → Side → (ℕ → ℕ) → ℕ → ℕ
-after meter m x k = pin 1 (either x (only m)) k
-after maker m x k = pin 2 (either (outside x) (only m)) k
+after Meter m x k = pin 1 (either x (only m)) k
+after Maker m x k = pin 2 (either (outside x) (only m)) k
 
 -- The marks to go on with, whatever the round came to.
 abbrev pub after_turn : Turn → Side → (ℕ → ℕ) → ℕ → ℕ
-after_turn stops x k = k
-after_turn (takes w m) x k = after w m x k
-after_turn ends x k = k
+after_turn Stops x k = k
+after_turn (Takes w m) x k = after w m x k
+after_turn Ends x k = k
 
--- ---- Each round writes a row, which is the struct of the code: price, area of X, module taken, way.
+-- ---- Each round writes a row, which is the struct of the code: price, area of X, and in two numbers, module taken and way, what it came to.
 
 -- Module taken: 65535 if none.
 abbrev pub taken_of : Turn → ℕ
-taken_of stops = 65535
-taken_of (takes w m) = m
-taken_of ends = 65535
+taken_of Stops = 65535
+taken_of (Takes w m) = m
+taken_of Ends = 65535
 
 -- Way: 1 to meter, 2 to maker.
 abbrev pub number : Way → ℕ
-number meter = 1
-number maker = 2
+number Meter = 1
+number Maker = 2
 
 -- 0 stopped, 3 ended with 14.
 abbrev pub way_of : Turn → ℕ
-way_of stops = 0
-way_of (takes w m) = number w
-way_of ends = 3
+way_of Stops = 0
+way_of (Takes w m) = number w
+way_of Ends = 3
 
 abbrev pub row : Card → (ℕ → ℕ) → Side → Turn → Row
-row c area x t = record { price = price c.nets x; area = area_to area x c.modules; taken = taken_of t; way = way_of t }
+row c area x t = record { price = price c.nets x; area = area_to area x c.modules; turn = t }
 
 -- One round takes the walk as it stands and gives the next: from the marks k, by the near side x and with the row r, to the marks l.
 pub record Round (c : Card) (area : ℕ → ℕ) (v : ℕ → Verdict) (k : ℕ → ℕ) (x : Side) (r : Row) (l : ℕ → ℕ) : Type 0 where
@@ -101,10 +95,10 @@ pub data Outcome : Type 0 where
 
 -- From the marks k the walk has these rows and comes to this: a round that stops it, one that goes on, or one that ends it.
 pub data Walks (c : Card) (area : ℕ → ℕ) (v : ℕ → Verdict) : (ℕ → ℕ) → List Row → Outcome → Type 0 where
-  stop : {k : ℕ → ℕ} (x : Side) → Near (remark c k) x → turn c area v k x ≡ stops → Walks c area v k (row c area x stops ∷ []) (found x)
-  go : {k : ℕ → ℕ} {rows : List Row} {o : Outcome} (x : Side) (w : Way) (m : ℕ) → Near (remark c k) x → turn c area v k x ≡ takes w m →
-      Walks c area v (after w m x k) rows o → Walks c area v k (row c area x (takes w m) ∷ rows) o
-  end : {k : ℕ → ℕ} (x : Side) → Near (remark c k) x → turn c area v k x ≡ ends → Walks c area v k (row c area x ends ∷ []) none_left
+  stop : {k : ℕ → ℕ} (x : Side) → Near (remark c k) x → turn c area v k x ≡ Stops → Walks c area v k (row c area x Stops ∷ []) (found x)
+  go : {k : ℕ → ℕ} {rows : List Row} {o : Outcome} (x : Side) (w : Way) (m : ℕ) → Near (remark c k) x → turn c area v k x ≡ Takes w m →
+      Walks c area v (after w m x k) rows o → Walks c area v k (row c area x (Takes w m) ∷ rows) o
+  end : {k : ℕ → ℕ} (x : Side) → Near (remark c k) x → turn c area v k x ≡ Ends → Walks c area v k (row c area x Ends ∷ []) none_left
 
 -- The free modules among the first n; with f in the book there are at most f + 1 rounds.
 abbrev pub free_to : (ℕ → ℕ) → ℕ → ℕ

@@ -13,7 +13,7 @@ use Rattle.gate.specs.Gates.{band_says}
 use Rattle.gate.specs.declared.Band.{Band}
 use Rattle.gate.specs.declared.Verdict.{Verdict}
 use Rattle.split.proofs.SameCard.{firsts_of, mods_of, weights_of}
-use Rattle.walk.specs.Walk.{Way, meter, maker, Turn, Row, choice, taking, turn, taken_of, way_of, after_turn, Round}
+use Rattle.walk.specs.Walk.{Way, Meter, Maker, Turn, Row, choice, taking, turn, after_turn, Round}
 use Rattle.walk.specs.Parts.{side_from, marks_of}
 
 -- The card that the slices are, within a book's limits, with its tables.
@@ -43,20 +43,24 @@ pub record Marked (s k : List ℕ) : Type 0 where
   pub long : length k ≡ modules s
   pub low : (m : ℕ) → m < modules s → marks_of k m ≤ 2
 
--- To the meter, or to the maker.
-abbrev pub way_from : Bool → Way
-way_from true = meter
-way_from false = maker
+-- To the meter, a round pins X itself; to the maker, what lies outside.
+abbrev pub is_meter : Way → Bool
+is_meter Meter = true
+is_meter Maker = false
 
 -- What a round comes to that pins that way: it takes its module on the other side of X.
-abbrev pub taking_from : List ℕ → (ℕ → ℕ) → Side → Bool → Turn
-taking_from s k x b = taking (way_from b) (choice (book.card_of s) k x (side_from (not b) x))
+abbrev pub taking_from : List ℕ → (ℕ → ℕ) → Side → Way → Turn
+taking_from s k x w = taking w (choice (book.card_of s) k x (side_from (not (is_meter w)) x))
 
--- The row and the marks that a turn gives.
-pub record Turned (s : List ℕ) (k : List ℕ) (x : Side) (price area : ℕ) (t : Turn) (r : Row) (l : List ℕ) : Type 0 where
-  pub row : r ≡ record { price = price; area = area; taken = taken_of t; way = way_of t }
+-- The marks that a turn gives.
+pub record Pins (s : List ℕ) (k : List ℕ) (x : Side) (t : Turn) (l : List ℕ) : Type 0 where
   pub marks : Alike (modules s) (after_turn t x (marks_of k)) (marks_of l)
   pub marked : Marked s l
+
+-- With its row.
+pub record Turned (s : List ℕ) (k : List ℕ) (x : Side) (price area : ℕ) (t : Turn) (r : Row) (l : List ℕ) : Type 0 where
+  pub row : r ≡ record { price = price; area = area; turn = t }
+  pub pins : Pins s k x t l
 
 -- What a band says of each area that a book can have.
 abbrev pub Says : Band → (ℕ → Verdict) → Type 0

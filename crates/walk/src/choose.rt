@@ -30,18 +30,11 @@ fn is_free_on(marks: &[u8], x: &[u8], on: bool, m: usize) -> bool
 }
 
 // The lowest free module on that side.
-fn lowest_free(marks: &[u8], x: &[u8], on: bool) -> book::Found
+fn lowest_free(marks: &[u8], x: &[u8], on: bool) -> Option<usize>
     requires { bytes_for (length marks.now) ≤ length x.now }
     ensures { result ≡ lowest (free_in (marks_of marks.now) (side_from on (side_of x.now))) (length marks.now) }
 {
-    let mut m: usize = 0;
-    while m < marks.len() {
-        if is_free_on(marks, x, on, m) {
-            return book::Found::At(m);
-        }
-        m += 1;
-    }
-    book::Found::Nothing
+    (0..marks.len()).find(|&m| is_free_on(marks, x, on, m))
 }
 
 // Whether it has a pin on a net that X cuts too.
@@ -53,29 +46,19 @@ fn is_free_in(marks: &[u8], x: &[u8], on: bool, cut: &[u8], m: usize) -> bool
 }
 
 // The lowest of those.
-fn lowest_cut(marks: &[u8], x: &[u8], on: bool, cut: &[u8]) -> book::Found
+fn lowest_cut(marks: &[u8], x: &[u8], on: bool, cut: &[u8]) -> Option<usize>
     requires { (bytes_for (length marks.now) ≤ length x.now) × (bytes_for (length marks.now) ≤ length cut.now) }
     ensures { result ≡ lowest (free_in_row marks.now (side_from on (side_of x.now)) cut.now) (length marks.now) }
 {
-    let mut m: usize = 0;
-    while m < marks.len() {
-        if is_free_in(marks, x, on, cut, m) {
-            return book::Found::At(m);
-        }
-        m += 1;
-    }
-    book::Found::Nothing
+    (0..marks.len()).find(|&m| is_free_in(marks, x, on, cut, m))
 }
 
 // The module taken: the lowest free one on that side with a pin on a net that X cuts; if none has, the lowest free one on that side.
-pub fn choose(marks: &[u8], x: &[u8], on: bool, cut: &[u8]) -> book::Found
+pub fn choose(marks: &[u8], x: &[u8], on: bool, cut: &[u8]) -> Option<usize>
     requires { (bytes_for (length marks.now) ≤ length x.now) × (bytes_for (length marks.now) ≤ length cut.now) }
     ensures { result ≡ choice_in marks.now (side_from on (side_of x.now)) cut.now }
 {
-    match lowest_cut(marks, x, on, cut) {
-        book::Found::At(m) => book::Found::At(m),
-        book::Found::Nothing => lowest_free(marks, x, on),
-    }
+    lowest_cut(marks, x, on, cut).or_else(|| lowest_free(marks, x, on))
 }
 
 // Whether module i is free, and is m or inside X (or outside it, as is asked).
@@ -86,23 +69,15 @@ fn is_pinned(marks: &[u8], x: &[u8], on: bool, m: usize, i: usize) -> bool
     (is_on(x, on, i) | (i == m)) & (marks[i] == 0)
 }
 
-// The mark of a module that is pinned, or is not.
-fn marked(pinned: bool, to: u8, mark: u8) -> u8
-    ensures { result ≡ (if pinned then to else mark) }
-{
-    if pinned { to } else { mark }
-}
-
 // Pins all of X, or all outside it, and module m.
 pub fn pin_side(marks: &mut [u8], x: &[u8], on: bool, m: usize, to: u8)
     requires { bytes_for (length marks.old) ≤ length x.now }
     ensures { Pinned to (either (side_from on (side_of x.now)) (only m)) (length marks.old) marks.old marks.new }
 {
-    let mut i: usize = 0;
-    while i < marks.len() {
-        let pinned = is_pinned(&*marks, x, on, m, i);
-        marks[i] = marked(pinned, to, marks[i]);
-        i += 1;
+    for i in 0..marks.len() {
+        if is_pinned(&*marks, x, on, m, i) {
+            marks[i] = to;
+        }
     }
 }
 
@@ -111,7 +86,7 @@ fn free_at(book: &[u8], m: usize) -> usize
     requires { Sound book.now × (m < modules book.now) }
     ensures { (free_to (mark book.now) (m + 1) ≡ free_to (mark book.now) m + result) × (result ≤ 1) }
 {
-    if book::mark(book, m) == 0 { 1 } else { 0 }
+    usize::from(book::mark(book, m) == 0)
 }
 
 // The free modules of the book.
@@ -119,12 +94,9 @@ pub fn free_count(book: &[u8]) -> usize
     requires { Sound book.now }
     ensures { (result ≡ free_to (mark book.now) (modules book.now)) × (result ≤ modules book.now) }
 {
-    let count = book::modules(book);
     let mut sum = 0;
-    let mut m = 0;
-    while m < count {
+    for m in 0..book::modules(book) {
         sum += free_at(book, m);
-        m += 1;
     }
     sum
 }

@@ -1,29 +1,15 @@
 // The modules with a pin on a net that X cuts.
 ghost use Rattle.side.specs.Sides.{side_of};
 ghost use Rattle.side.specs.Given.{Lent, AtNet};
-ghost use Rattle.walk.specs.Parts.{Cleared, Adds, on_net, on_cut_net, CutRow};
-
-// Takes every module off.
-fn clear(out: &mut [u8])
-    ensures { Cleared out.old out.new }
-{
-    let mut i: usize = 0;
-    while i < out.len() {
-        out[i] = 0;
-        i += 1;
-    }
-}
+ghost use Rattle.walk.specs.Parts.{Adds, on_net, on_cut_net, CutRow};
 
 // Puts the modules of net n on.
 fn put_net(book: &[u8], n: usize, first: usize, out: &mut [u8])
     requires { Lent book.now out.old × AtNet book.now n first }
     ensures { Adds (on_net book.now n) out.old out.new }
 {
-    let many = book::pin_count(book, n);
-    let mut j = 0;
-    while j < many {
+    for j in 0..book::pin_count(book, n) {
         side::put(&mut *out, side::pin_of(book, n, first, j));
-        j += 1;
     }
 }
 
@@ -42,13 +28,10 @@ pub fn cut_row(book: &[u8], x: &[u8], out: &mut [u8])
     requires { Lent book.now x.now × Lent book.now out.old }
     ensures { CutRow book.now (side_of x.now) out.old out.new }
 {
-    clear(&mut *out);
-    let count = book::nets(book);
+    out.fill(0);
     let mut first = 0;
-    let mut n = 0;
-    while n < count {
+    for n in 0..book::nets(book) {
         put_cut(book, x, n, first, &mut *out);
         first += book::pin_count(book, n);
-        n += 1;
     }
 }

@@ -10,17 +10,16 @@ ghost use Rattle.side.specs.Sides.{side_of, SpareClear};
 ghost use Rattle.walk.specs.Call.{side_bytes, over};
 ghost use Rattle.walk.specs.Answer.{Finished};
 
+use crate::{Done, NotDone, Turn};
+
 // The total area.
 pub fn whole_area(book: &[u8]) -> usize
     requires { Sound book.now }
     ensures { (result ≡ whole_area (card_of book.now) (area book.now)) × (result ≤ most_area) }
 {
-    let count = book::modules(book);
     let mut sum = 0;
-    let mut m = 0;
-    while m < count {
+    for m in 0..book::modules(book) {
         sum += book::area(book, m);
-        m += 1;
     }
     sum
 }
@@ -31,23 +30,22 @@ fn write_side(book: &[u8], x: &[u8], side: &mut [u8])
     ensures { side.new ≡ over (side_bytes (side_of x.now) (modules book.now)) side.old }
 {
     let n = (book::modules(book) + 7) / 8;
-    crate::rows::copy(x, n, side);
+    side[..n].copy_from_slice(&x[..n]);
 }
 
 // Stopped: the side is written. Ended with 14: it is not.
-pub fn finish(book: &[u8], w: crate::Standing, side: &mut [u8]) -> crate::Answered
+pub fn finish(book: &[u8], w: crate::Standing, side: &mut [u8]) -> Result<Done, NotDone>
     requires { Lent book.now side.old × SpareClear w.x (modules book.now) }
     ensures { Finished book.now w side.old side.new result }
 {
-    let row = w.row;
-    let rounds = w.rounds;
-    if row.way == 0 {
-        let x = w.x;
-        write_side(book, &x, side);
-        return crate::Answered::Done {
-            price: row.price,
-            rounds,
-        };
+    match w.row.turn {
+        Turn::Stops => {
+            write_side(book, &w.x, side);
+            Ok(Done {
+                price: w.row.price,
+                rounds: w.rounds,
+            })
+        }
+        _ => Err(NotDone::Stuck(w.rounds)),
     }
-    crate::Answered::Stuck(rounds)
 }

@@ -4,8 +4,13 @@
 ghost use Rattle.std.specs.Prelude.{◌≡◌, ◌≤◌, length};
 ghost use Rattle.book.specs.Sound.{Sound};
 ghost use Rattle.side.specs.Given.{Lent};
+ghost use Rattle.walk.specs.Walk.{number, taken_of, way_of};
+ghost use Rattle.walk.specs.Work.{is_meter};
 ghost use Rattle.walk.specs.Call.{room_for, too_short, Written, Comes, checked_sound, Walked};
 ghost use Rattle.walk.specs.Answer.{left_by};
+ghost use Rattle.walk.specs.declared.NotDone.TheVariants.{Refused};
+
+use book::{Book, Refusal};
 
 mod choose;
 mod cut;
@@ -16,30 +21,103 @@ mod round;
 mod rows;
 mod run;
 
-// The answer of the walk's call.
+// The walk came to a side: the last price and the count of rounds.
 #[derive(Clone, Copy)]
-pub enum Answered {
-    Done { price: u32, rounds: usize },
+pub struct Done {
+    pub price: u32,
+    pub rounds: usize,
+}
+
+// It came to none: it ended with 14 after this many rounds, or a check refused.
+#[derive(Clone, Copy)]
+pub enum NotDone {
     Stuck(usize),
-    Refused(book::Refusal),
+    Refused(Refusal),
+}
+
+impl From<Refusal> for NotDone {
+    ghost from_gives = { λ why r. r ≡ Refused why };
+
+    fn from(why: Refusal) -> NotDone {
+        NotDone::Refused(why)
+    }
 }
 
 // The bytes that a side of the most modules needs.
-const SIDE: usize = (book::Book::MODULES + 7) / 8;
+const SIDE: usize = (Book::MODULES + 7) / 8;
 
-// A row that a round writes: price, area of X, module taken, way.
+// A round pins to the meter, or to the maker.
+#[derive(Clone, Copy)]
+pub enum Way {
+    Meter,
+    Maker,
+}
+
+impl Way {
+    // Whether it pins X itself, and not what lies outside X.
+    fn is_meter(self) -> bool
+        ensures { result ≡ is_meter self }
+    {
+        match self {
+            Way::Meter => true,
+            Way::Maker => false,
+        }
+    }
+
+    // Document 01's number of a way, which is the mark too.
+    fn number(self) -> u8
+        ensures { result ≡ number self }
+    {
+        match self {
+            Way::Meter => 1,
+            Way::Maker => 2,
+        }
+    }
+}
+
+// What a round comes to: it stops; it takes a module and pins; or it ends with 14.
+#[derive(Clone, Copy)]
+pub enum Turn {
+    Stops,
+    Takes(Way, u16),
+    Ends,
+}
+
+impl Turn {
+    // The module taken as its row says it.
+    fn taken(self) -> u16
+        ensures { result ≡ taken_of self }
+    {
+        match self {
+            Turn::Takes(_, m) => m,
+            _ => 65535,
+        }
+    }
+
+    // The way as its row says it.
+    fn way(self) -> u16
+        ensures { result ≡ way_of self }
+    {
+        match self {
+            Turn::Stops => 0,
+            Turn::Takes(way, _) => u16::from(way.number()),
+            Turn::Ends => 3,
+        }
+    }
+}
+
+// A row that a round writes: price, area of X, and in two numbers what the round came to.
 #[derive(Clone, Copy)]
 pub struct Row {
     pub price: u32,
     pub area: u32,
-    pub taken: u16,
-    pub way: u16,
+    pub turn: Turn,
 }
 
 // The walk as it stands: the marks, and the near side and the row of the last round.
 #[derive(Clone, Copy)]
 pub struct Standing {
-    marks: [u8; book::Book::MODULES],
+    marks: [u8; Book::MODULES],
     x: [u8; SIDE],
     row: Row,
     rounds: usize,
@@ -55,7 +133,12 @@ fn is_short(book: &[u8], side: &[u8], rows: &[u8]) -> bool
 }
 
 // The walk where no check refuses.
-fn walk_checked(book: &[u8], gate: gate::Gate, side: &mut [u8], rows: &mut [u8]) -> Answered
+fn walk_checked(
+    book: &[u8],
+    gate: gate::Gate,
+    side: &mut [u8],
+    rows: &mut [u8],
+) -> Result<Done, NotDone>
     requires { Lent book.now side.old × (room_for book.now ≤ length rows.old) }
     ensures { Written book.now gate side.old rows.old (left_by result side.new rows.new) }
 {
@@ -65,25 +148,33 @@ fn walk_checked(book: &[u8], gate: gate::Gate, side: &mut [u8], rows: &mut [u8])
 }
 
 // Checks 7 and 8 of a book that reads, and the walk.
-fn walk_sound(book: &[u8], gate: gate::Gate, side: &mut [u8], rows: &mut [u8]) -> Answered
+fn walk_sound(
+    book: &[u8],
+    gate: gate::Gate,
+    side: &mut [u8],
+    rows: &mut [u8],
+) -> Result<Done, NotDone>
     requires { Sound book.now }
     ensures { Comes (checked_sound book.now gate side.old rows.old) book.now gate side.old rows.old (left_by result side.new rows.new) }
 {
     if !gate.good() {
-        return Answered::Refused(book::Refusal::Gate);
+        return Err(NotDone::Refused(Refusal::Gate));
     }
     if is_short(book, &*side, &*rows) {
-        return Answered::Refused(book::Refusal::Buffer);
+        return Err(NotDone::Refused(Refusal::Buffer));
     }
     walk_checked(book, gate, side, rows)
 }
 
 // The balancing walk on any bytes: checks 1 to 6, 7 and 8 first. The side is written where the walk stops, and the rows where no check refuses.
-pub fn walk(book: &[u8], gate: gate::Gate, side: &mut [u8], rows: &mut [u8]) -> Answered
+pub fn walk(
+    book: &[u8],
+    gate: gate::Gate,
+    side: &mut [u8],
+    rows: &mut [u8],
+) -> Result<Done, NotDone>
     ensures { Walked book.now gate side.old rows.old (left_by result side.new rows.new) }
 {
-    match book::read(book) {
-        book::Reading::Good(_) => walk_sound(book, gate, side, rows),
-        book::Reading::Refused(why) => Answered::Refused(why),
-    }
+    book::read(book)?;
+    walk_sound(book, gate, side, rows)
 }

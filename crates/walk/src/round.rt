@@ -6,12 +6,14 @@ ghost use Rattle.book.specs.Cards as card;
 ghost use Rattle.side.specs.Given.{Lent};
 ghost use Rattle.side.specs.Sides.{side_of, bytes_for};
 ghost use Rattle.flow.specs.Cards.{card_of};
-ghost use Rattle.walk.specs.Walk.{number, choice};
+ghost use Rattle.walk.specs.Walk.{choice};
 ghost use Rattle.walk.specs.Parts.{marks_of, side_from};
-ghost use Rattle.walk.specs.Work.{Loaded, Marked, way_from, taking_from, Turned, Stepped, OneRound};
+ghost use Rattle.walk.specs.Work.{Loaded, Marked, taking_from, Pins, Stepped, OneRound};
+
+use crate::{Row, Turn, Way};
 
 // The module that a round takes inside X, or outside it, as is asked.
-fn seek(book: &[u8], marks: &[u8], x: &[u8], on: bool) -> book::Found
+fn seek(book: &[u8], marks: &[u8], x: &[u8], on: bool) -> Option<usize>
     requires { Lent book.now x.now × Marked book.now marks.now }
     ensures { result ≡ choice (card.card_of book.now) (marks_of marks.now) (side_of x.now) (side_from on (side_of x.now)) }
 {
@@ -20,62 +22,34 @@ fn seek(book: &[u8], marks: &[u8], x: &[u8], on: bool) -> book::Found
     crate::choose::choose(marks, x, on, &cut)
 }
 
-// Way: 1 to meter, 2 to maker, which are the marks too.
-fn mark_of(meter: bool) -> u8
-    ensures { result ≡ number (way_from meter) }
-{
-    if meter { 1 } else { 2 }
-}
-
 // Below low: pins all of X to the meter, and one free module outside X. Above high: pins all outside X to the maker, and one free module inside X. If there is none, ends with 14.
-fn take_one(
-    book: &[u8],
-    marks: &mut [u8],
-    x: &[u8],
-    price: u32,
-    area: u32,
-    meter: bool,
-) -> crate::Row
+fn take_one(book: &[u8], marks: &mut [u8], x: &[u8], way: Way) -> Turn
     requires { Lent book.now x.now × Marked book.now marks.old }
-    ensures { Turned book.now marks.old (side_of x.now) price area (taking_from book.now (marks_of marks.old) (side_of x.now) meter) result marks.new }
+    ensures { (result ≡ taking_from book.now (marks_of marks.old) (side_of x.now) way) × Pins book.now marks.old (side_of x.now) result marks.new }
 {
+    let meter = way.is_meter();
     match seek(book, &*marks, x, !meter) {
-        book::Found::At(m) => {
-            let to = mark_of(meter);
-            crate::choose::pin_side(&mut *marks, x, meter, m, to);
-            crate::Row {
-                price,
-                area,
-                taken: m as u16,
-                way: to as u16,
-            }
+        Some(m) => {
+            crate::choose::pin_side(&mut *marks, x, meter, m, way.number());
+            Turn::Takes(way, m as u16)
         }
-        book::Found::Nothing => crate::Row {
-            price,
-            area,
-            taken: 65535,
-            way: 3,
-        },
+        None => Turn::Ends,
     }
 }
 
 // A round with X known: its area is compared with the band.
-fn step(book: &[u8], band: gate::Band, marks: &mut [u8], x: &[u8]) -> crate::Row
+fn step(book: &[u8], band: gate::Band, marks: &mut [u8], x: &[u8]) -> Row
     requires { Lent book.now x.now × Marked book.now marks.old }
     ensures { Stepped book.now band marks.old (side_of x.now) result marks.new }
 {
     let price = side::price_of(book, x) as u32;
     let area = side::area(book, x) as u32;
-    match band.says(area) {
-        gate::Verdict::Below => take_one(book, marks, x, price, area, true),
-        gate::Verdict::Within => crate::Row {
-            price,
-            area,
-            taken: 65535,
-            way: 0,
-        },
-        gate::Verdict::Above => take_one(book, marks, x, price, area, false),
-    }
+    let turn = match band.says(area) {
+        gate::Verdict::Below => take_one(book, marks, x, Way::Meter),
+        gate::Verdict::Within => Turn::Stops,
+        gate::Verdict::Above => take_one(book, marks, x, Way::Maker),
+    };
+    Row { price, area, turn }
 }
 
 // A round on the book's slices, from any flow that is fair for the marks.
@@ -91,7 +65,7 @@ pub fn round_on(
     marks: &mut [u8],
     flow: &mut [i32],
     x: &mut [u8],
-) -> crate::Row
+) -> Row
     requires { Loaded book.now first.now mods.now weight.now nets.now at.now pins.now × Marked book.now marks.old × Fair (card_of first.now mods.now weight.now marks.old) flow.old × (length flow.old ≡ length mods.now) × (bytes_for (modules book.now) ≤ length x.old) }
     ensures { OneRound book.now band marks.old x.new result marks.new }
 {

@@ -10,8 +10,10 @@ ghost use Rattle.walk.specs.Call.{room_for};
 ghost use Rattle.walk.specs.Work.{Loaded, Marked, OneRound};
 ghost use Rattle.walk.specs.Runs.{standing_marks, Ran};
 
+use crate::{Row, Standing, Turn};
+
 // The walk before its first round.
-fn start(book: &[u8]) -> crate::Standing
+fn start(book: &[u8]) -> Standing
     requires { Sound book.now }
     ensures { (standing_marks book.now result ≡ listed (mark book.now) (modules book.now)) × (result.rounds ≡ 0) }
 {
@@ -19,13 +21,12 @@ fn start(book: &[u8]) -> crate::Standing
     let mut marks: [u8; book::Book::MODULES] = [0; book::Book::MODULES];
     split::load::marks(book, &mut marks[..m]);
     let x: [u8; crate::SIDE] = [0; crate::SIDE];
-    let row = crate::Row {
+    let row = Row {
         price: 0,
         area: 0,
-        taken: 0,
-        way: 0,
+        turn: Turn::Stops,
     };
-    crate::Standing {
+    Standing {
         marks,
         x,
         row,
@@ -33,7 +34,7 @@ fn start(book: &[u8]) -> crate::Standing
     }
 }
 
-impl crate::Standing {
+impl Standing {
     // One round takes the walk as it stands and gives the next. The flow is any that is fair for the marks.
     fn round(
         self,
@@ -46,7 +47,7 @@ impl crate::Standing {
         at: &[u16],
         pins: &[u16],
         flow: &mut [i32],
-    ) -> crate::Standing
+    ) -> Standing
         requires { Loaded book.now first.now mods.now weight.now nets.now at.now pins.now × Marked book.now (standing_marks book.now self) × Fair (card_of first.now mods.now weight.now (standing_marks book.now self)) flow.old × (length flow.old ≡ length mods.now) × (self.rounds ≤ most_modules) }
         ensures { OneRound book.now band (standing_marks book.now self) result.x result.row (standing_marks book.now result) × (result.rounds ≡ self.rounds + 1) }
     {
@@ -67,7 +68,7 @@ impl crate::Standing {
             &mut x,
         );
         let rounds = self.rounds + 1;
-        crate::Standing {
+        Standing {
             marks,
             x,
             row,
@@ -88,7 +89,7 @@ pub fn run(
     pins: &[u16],
     flow: &mut [i32],
     rows: &mut [u8],
-) -> crate::Standing
+) -> Standing
     requires { Loaded book.now first.now mods.now weight.now nets.now at.now pins.now × (length flow.old ≡ length mods.now) × (room_for book.now ≤ length rows.old) }
     ensures { Ran book.now band rows.old rows.new result }
 {
@@ -97,14 +98,10 @@ pub fn run(
         let place = 12 * w.rounds;
         flow::engine::still(&mut *flow);
         w = w.round(book, band, first, mods, weight, nets, at, pins, &mut *flow);
-        let row = w.row;
-        crate::rows::put_row(&mut *rows, place, row);
-        let way = row.way;
-        if way == 0 {
-            return w;
-        }
-        if way == 3 {
-            return w;
+        crate::rows::put_row(&mut *rows, place, w.row);
+        match w.row.turn {
+            Turn::Takes(_, _) => {}
+            Turn::Stops | Turn::Ends => return w,
         }
     }
 }

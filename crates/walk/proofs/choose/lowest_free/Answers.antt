@@ -1,30 +1,16 @@
--- `walk::choose::lowest_free` meets its contract: no module below `m` passes. Assumes nothing.
-use Rattle.walk.specs.Parts.{marks_of, side_from}
-use Rattle.walk.specs.Walk.{free_in}
+-- `walk::choose::lowest_free` meets its contract: the first find of the range is the lowest. Assumes nothing.
+use Rattle.std.specs.Prelude.{◌≡◌, ℕ, true, false}
+use Rattle.std.proofs.lemmas.Iterator.{first_from_Range}
+use borrow.Author.Rules.{rules}
+use borrow.Author.Tests.{tests}
+use Rattle.book.proofs.Firsts.{lowest_by}
 use Rattle.side.specs.Sides.{side_of}
-use Rattle.walk.proofs.Marks.{lowest_start}
-use Rattle.book.proofs.Firsts.{lowest_more, lowest_found, lowest_ended}
-use Rattle.std.specs.Prelude.{length}
-use mathlib.Core.Path.{sym, ◌∙◌}
-use native.Mathlib.Omega.{arith}
+use Rattle.walk.specs.Walk.{free_in}
+use Rattle.walk.specs.Parts.{side_from, marks_of}
 use Rattle.walk.proofs.choose.lowest_free.Goals as goal
-
-pub loop-m-init : goal.loop-m-init
-loop-m-init c = (omega arith, lowest_start _)
-
-pub returns-then-is_free_on : goal.returns-then-is_free_on
-returns-then-is_free_on c =
-    let a = c.args in
-    let i = c.loop-m in
-    sym (lowest_found (free_in (marks_of a.marks.now) (side_from a.on (side_of a.x.now))) i.m (length a.marks.now) i.invariant.1 (sym c.is_free_on.ensures ∙ c.if-is_free_on.true) (omega arith))
-
-pub loop-m-preserved : goal.loop-m-preserved
-loop-m-preserved c =
-    let a = c.args in
-    let i = c.loop-m in
-    (omega arith, lowest_more (free_in (marks_of a.marks.now) (side_from a.on (side_of a.x.now))) i.m i.invariant.1 (sym c.is_free_on.ensures ∙ c.if-is_free_on.false))
 
 pub returns : goal.returns
 returns c =
     let a = c.args in
-    sym (lowest_ended (free_in (marks_of a.marks.now) (side_from a.on (side_of a.x.now))) c.loop-m.m (length a.marks.now) c.loop-m.invariant.1 (omega arith))
+    let t = free_in (marks_of a.marks.now) (side_from a.on (side_of a.x.now)) in
+    lowest_by t _ _ (first_from_Range _ _ _ _ (λ (m : ℕ). t m ≡ true) (λ (m : ℕ). t m ≡ false) c.find.ensures.ran (λ x q k. search (rules, tests)) (λ x q k. search (rules, tests)))

@@ -3,13 +3,8 @@ use Rattle.walk.specs.Parts.{side_from, Pinned}
 use Rattle.side.specs.Sides.{side_of}
 use Rattle.line.specs.Flow.{only}
 use Rattle.line.specs.Card.{either}
-use Rattle.std.specs.Prelude.{◌-◌, ◌≤◌, length}
 use Rattle.walk.proofs.choose.pin_side.Given as goal
 
 abbrev pub invariant-loop-i : goal.invariant-loop-i
 invariant-loop-i l =
-    (l.i ≤ length l.initial.marks) × Pinned l.to (either (side_from l.on (side_of l.x)) (only l.m)) l.i l.initial.marks l.marks
-
-abbrev pub decreases-loop-i : goal.decreases-loop-i
-decreases-loop-i l =
-    length l.initial.marks - l.i
+    Pinned l.to (either (side_from l.on (side_of l.x)) (only l.m)) l.i l.initial.marks l.marks

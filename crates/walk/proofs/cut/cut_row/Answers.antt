@@ -1,25 +1,19 @@
 -- `walk::cut::cut_row` meets its contract: the modules on cut nets before `n` are put on, and `first` is the place of the first pin of net `n`. Assumes nothing.
 use Rattle.split.proofs.Loads.{first-zero}
-use Rattle.walk.proofs.Cuts.{cut_start, cut_next, cut-row}
+use Rattle.walk.proofs.Cuts.{cleared, cut_start, cut_next, cut-row}
+use Rattle.walk.specs.Parts.{Cleared}
 use Rattle.side.proofs.Places.{next_within}
 use Rattle.side.specs.Sides.{side_of}
 use Rattle.book.proofs.CardLaws.{first_pin-suc}
 use Rattle.std.specs.Prelude.{ℕ, ◌+◌}
-use mathlib.Core.Path.{sym, ap₂, ◌∙◌}
+use mathlib.Core.Path.{sym, ap₂, ◌∙◌, subst}
 use native.Mathlib.Omega.{arith}
 use Rattle.walk.proofs.cut.cut_row.Goals as goal
 
 pub loop-n-init : goal.loop-n-init
 loop-n-init c =
     let a = c.args in
-    (omega arith, first-zero a.book.now, cut_start a.book.now (side_of a.x.now) _)
-
-pub put_cut-requires : goal.put_cut-requires
-put_cut-requires c =
-    let p = c.requires in
-    let clear' = c.clear in
-    let i = c.loop-n in
-    (p.0, record { sound = p.0.sound; enough = omega (arith, i.invariant.2.long, clear'.ensures.long, p.1.enough) }, record { under = omega arith; begins = i.invariant.1 })
+    (first-zero a.book.now, cut_start a.book.now (side_of a.x.now) _)
 
 pub overflow_add-first : goal.overflow_add-first
 overflow_add-first c =
@@ -33,13 +27,10 @@ loop-n-preserved c =
     let a = c.args in
     let i = c.loop-n in
     let put-cut' = c.put_cut in
-    (omega arith, ap₂ (λ (p q : ℕ). p + q) i.invariant.1 c.pin_count-first.ensures.0 ∙ sym (first_pin-suc a.book.now i.n), cut_next a.book.now (side_of a.x.now) i.n _ i.out _ (omega arith) i.invariant.2 put-cut'.ensures)
-
-pub shape_of-out : goal.shape_of-out
-shape_of-out c = c.loop-n.invariant.2.long ∙ c.clear.ensures.long
+    (ap₂ (λ (p q : ℕ). p + q) i.invariant.0 c.pin_count-first.ensures.0 ∙ sym (first_pin-suc a.book.now i.n), cut_next a.book.now (side_of a.x.now) i.n _ i.out _ (omega arith) i.invariant.1 put-cut'.ensures)
 
 pub returns : goal.returns
 returns c =
     let a = c.args in
-    let clear' = c.clear in
-    cut-row a.book.now (side_of a.x.now) c.loop-n.n a.out.now _ c.loop-n.out (omega arith) clear'.ensures c.loop-n.invariant.2
+    let i = c.loop-n in
+    cut-row a.book.now (side_of a.x.now) i.n a.out.now _ i.out (omega (arith, i.auto.n-end, c.nets-n-end.ensures)) (subst (Cleared a.out.now) (sym (c.fill.ensures.after (λ y e. e))) (cleared a.out.now)) i.invariant.1

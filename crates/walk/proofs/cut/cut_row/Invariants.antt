@@ -4,13 +4,9 @@ use Rattle.walk.specs.Walk.{on_cut}
 use Rattle.side.specs.Sides.{side_of}
 use Rattle.book.specs.Cards.{nets_of}
 use Rattle.book.specs.Format.{first_pin}
-use Rattle.std.specs.Prelude.{◌≡◌, ◌-◌, ◌≤◌, take}
+use Rattle.std.specs.Prelude.{◌≡◌, take}
 use Rattle.walk.proofs.cut.cut_row.Given as goal
 
 abbrev pub invariant-loop-n : goal.invariant-loop-n
 invariant-loop-n l =
-    (l.n ≤ l.count) × (l.first ≡ first_pin l.book l.n) × Adds (on_cut (take l.n (nets_of l.book)) (side_of l.x)) l.initial.out l.out
-
-abbrev pub decreases-loop-n : goal.decreases-loop-n
-decreases-loop-n l =
-    l.count - l.n
+    (l.first ≡ first_pin l.book l.n) × Adds (on_cut (take l.n (nets_of l.book)) (side_of l.x)) l.initial.out l.out

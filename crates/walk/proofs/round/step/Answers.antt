@@ -1,32 +1,18 @@
 -- `walk::round::step` meets its contract: the band says below, within or above. Assumes nothing.
-use Rattle.walk.proofs.Steps.{step_below, step_above, step_within}
+use Rattle.walk.proofs.Steps.{stepped, stops_pins}
 use Rattle.side.specs.Sides.{side_of}
-use mathlib.Core.Path.{refl}
+use mathlib.Core.Path.{refl, sym, ◌∙◌}
 use Rattle.walk.proofs.round.step.Goals as goal
 
 pub returns-in-Below : goal.returns-in-Below
 returns-in-Below c =
-    let a = c.args in
-    let price-of' = c.price_of-price in
-    let area' = c.area-area in
-    let says' = c.says in
-    let take-one' = c.take_one in
-    step_below a.book.now a.marks.now _ (side_of a.x.now) a.band price-of'.result area'.result _ says'.result price-of'.ensures.0 area'.ensures.0 area'.ensures.1 says'.ensures c.in-Below.is take-one'.ensures
+    let t = c.take_one-turn in
+    stepped c.args.band c.price_of-price.ensures.0 c.area-area.ensures.0 c.area-area.ensures.1 (sym c.in-Below.is ∙ c.says.ensures) t.ensures.0 t.ensures.1
 
 pub returns-in-Within : goal.returns-in-Within
-returns-in-Within c =
-    let a = c.args in
-    let p = c.requires in
-    let price-of' = c.price_of-price in
-    let area' = c.area-area in
-    let says' = c.says in
-    step_within a.book.now a.marks.now _ (side_of a.x.now) a.band price-of'.result area'.result _ says'.result price-of'.ensures.0 area'.ensures.0 area'.ensures.1 says'.ensures c.in-Within.is p.1 refl refl
+returns-in-Within c = stepped c.args.band c.price_of-price.ensures.0 c.area-area.ensures.0 c.area-area.ensures.1 (sym c.in-Within.is ∙ c.says.ensures) refl (stops_pins c.args.book.now c.args.marks.now (side_of c.args.x.now) c.requires.1)
 
 pub returns-in-Above : goal.returns-in-Above
 returns-in-Above c =
-    let a = c.args in
-    let price-of' = c.price_of-price in
-    let area' = c.area-area in
-    let says' = c.says in
-    let take-one2' = c.take_one-in-Above in
-    step_above a.book.now a.marks.now _ (side_of a.x.now) a.band price-of'.result area'.result _ says'.result price-of'.ensures.0 area'.ensures.0 area'.ensures.1 says'.ensures c.in-Above.is take-one2'.ensures
+    let t = c.take_one-turn-in-Above in
+    stepped c.args.band c.price_of-price.ensures.0 c.area-area.ensures.0 c.area-area.ensures.1 (sym c.in-Above.is ∙ c.says.ensures) t.ensures.0 t.ensures.1

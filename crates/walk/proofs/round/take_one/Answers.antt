@@ -1,9 +1,11 @@
 -- `walk::round::take_one` meets its contract: the choice found a module, or none. Assumes nothing.
-use Rattle.walk.proofs.Steps.{takes_turned, ends_turned, taken_small}
-use Rattle.walk.specs.Parts.{side_from}
+use Rattle.walk.proofs.Steps.{takes_pins, taken_small}
+use Rattle.walk.specs.Parts.{side_from, marks_of}
+use Rattle.walk.specs.Walk.{choice, taking}
+use Rattle.book.specs.Cards.{card_of}
 use Rattle.side.specs.Sides.{side_of}
-use Rattle.std.specs.Prelude.{not}
-use mathlib.Core.Path.{refl, sym, ◌∙◌}
+use Rattle.std.specs.Prelude.{◌≡◌, not, Some}
+use mathlib.Core.Path.{sym, ap, ◌∙◌}
 use native.Mathlib.Omega.{arith}
 use Rattle.walk.proofs.round.take_one.Goals as goal
 
@@ -11,21 +13,13 @@ pub overflow_cast-result : goal.overflow_cast-result
 overflow_cast-result c =
     let a = c.args in
     let p = c.requires in
-    let seek' = c.seek in
-    record { fits = omega (arith, taken_small a.book.now p.0.sound a.marks.now (side_of a.x.now) (side_from (not a.meter) (side_of a.x.now)) _ (sym seek'.ensures ∙ c.in-At.is)) }
+    record { fits = omega (arith, taken_small a.book.now p.0.sound a.marks.now (side_of a.x.now) (side_from (not c.is_meter-meter.result) (side_of a.x.now)) _ (sym c.seek.ensures ∙ c.in-Some.is)) }
 
-pub returns-in-At : goal.returns-in-At
-returns-in-At c =
+pub returns-in-Some : goal.returns-in-Some
+returns-in-Some c =
     let a = c.args in
-    let p = c.requires in
-    let seek' = c.seek in
-    let mark-of' = c.mark_of-to in
-    let pin-side' = c.pin_side in
-    takes_turned a.book.now a.marks.now (side_of a.x.now) a.meter p.1 a.price a.area _ _ mark-of'.result _ (sym seek'.ensures ∙ c.in-At.is) mark-of'.ensures pin-side'.ensures refl
-
-pub returns-in-Nothing : goal.returns-in-Nothing
-returns-in-Nothing c =
-    let a = c.args in
-    let p = c.requires in
-    let seek' = c.seek in
-    ends_turned a.book.now a.marks.now (side_of a.x.now) a.meter p.1 a.price a.area _ (sym seek'.ensures ∙ c.in-Nothing.is) refl
+    let x = side_of a.x.now in
+    let e : choice (card_of a.book.now) (marks_of a.marks.now) x (side_from (not c.is_meter-meter.result) x) ≡ Some c.in-Some.m = sym c.seek.ensures ∙ c.in-Some.is in (
+      ap (taking a.way) (sym (rw c.is_meter-meter.ensures at e)),
+      takes_pins a.book.now a.marks.now x c.requires.1 a.way _ c.in-Some.m (rw (c.number.ensures, c.is_meter-meter.ensures) at c.pin_side.ensures),
+    )

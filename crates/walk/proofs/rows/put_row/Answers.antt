@@ -1,35 +1,16 @@
 -- `walk::rows::put_row` meets its contract: four numbers, one after the other. Assumes nothing.
-use Rattle.walk.proofs.Bytes.{row-bytes}
-use native.Mathlib.Omega.{arith}
+use Rattle.walk.proofs.Bytes.{two_bytes, four_bytes, row-bytes}
+use Rattle.walk.specs.Parts.{over_at}
+use Rattle.walk.specs.Call.{little_endian}
+use Rattle.std.specs.Prelude.{ℕ, ◌+◌, List}
+use mathlib.Core.Path.{ap, ◌∙◌}
 use Rattle.walk.proofs.rows.put_row.Goals as goal
-
-pub put_u32-requires : goal.put_u32-requires
-put_u32-requires c = omega (arith, c.requires)
-
-pub put_u32-requires-2 : goal.put_u32-requires-2
-put_u32-requires-2 c = omega (arith, c.put_u32.auto.out, c.requires)
-
-pub put_u16-requires : goal.put_u16-requires
-put_u16-requires c =
-    let p = c.requires in
-    let put-u32' = c.put_u32 in
-    let put-u322' = c.put_u32-2 in
-    omega (arith, put-u32'.auto.out, put-u322'.auto.out, p)
-
-pub put_u16-requires-2 : goal.put_u16-requires-2
-put_u16-requires-2 c =
-    let p = c.requires in
-    let put-u32' = c.put_u32 in
-    let put-u322' = c.put_u32-2 in
-    let put-u16' = c.put_u16 in
-    omega (arith, put-u32'.auto.out, put-u322'.auto.out, put-u16'.auto.out, p)
 
 pub returns : goal.returns
 returns c =
     let a = c.args in
-    let p = c.requires in
-    let put-u32' = c.put_u32 in
-    let put-u322' = c.put_u32-2 in
-    let put-u16' = c.put_u16 in
-    let put-u162' = c.put_u16-2 in
-    row-bytes _ _ _ _ _ a.at a.row p put-u32'.ensures put-u322'.ensures put-u16'.ensures put-u162'.ensures
+    row-bytes a.out.now c.put.new.out c.put-2.new.out c.put-3.new.out c.put-4.new.out a.at a.row c.requires
+    (c.put.ensures ∙ ap (λ (b : List ℕ). over_at a.at b a.out.now) (c.to_le_bytes.ensures ∙ four_bytes a.row.price))
+    (c.put-2.ensures ∙ ap (λ (b : List ℕ). over_at (a.at + 4) b c.put.new.out) (c.to_le_bytes-2.ensures ∙ four_bytes a.row.area))
+    (c.put-3.ensures ∙ ap (λ (b : List ℕ). over_at (a.at + 8) b c.put-2.new.out) (c.to_le_bytes-3.ensures ∙ two_bytes c.taken.result ∙ ap (little_endian 2) c.taken.ensures))
+    (c.put-4.ensures ∙ ap (λ (b : List ℕ). over_at (a.at + 10) b c.put-3.new.out) (c.to_le_bytes-4.ensures ∙ two_bytes c.way.result ∙ ap (little_endian 2) c.way.ensures))

@@ -1,82 +1,41 @@
 -- `walk::run::run` meets its contract: the walk stands at its marks, with its rows written; fewer modules are free after each round. Assumes nothing.
-use Rattle.walk.proofs.Runs.{Going, going_start, going_room, going_few, going_again, going_less, going_stops, going_ends}
-use Rattle.walk.specs.Runs.{standing_marks}
+use Rattle.walk.proofs.Runs.{going_start, going_room, going_few, going_again, going_less, going_ended}
 use Rattle.flow.proofs.Raised.{zeros_fair}
-use Rattle.std.specs.Prelude.{ℕ}
-use mathlib.Core.Path.{refl, sym, ◌∙◌, subst}
+use mathlib.Core.Path.{refl, ◌∙◌}
 use native.Mathlib.Omega.{arith}
 use Rattle.walk.proofs.run.run.Goals as goal
 
-pub start-w-requires : goal.start-w-requires
-start-w-requires c = c.requires.0.sound
-
-pub loop-band-init : goal.loop-band-init
-loop-band-init c =
-    let a = c.args in
-    let p = c.requires in
-    (subst (λ (n : ℕ). Going a.book.now a.band (standing_marks a.book.now c.start-w.result) (standing_marks a.book.now c.start-w.result) n a.rows.now a.rows.now) (sym c.start-w.ensures.1) (going_start a.book.now p.0.sound a.band (standing_marks a.book.now c.start-w.result) a.rows.now c.start-w.ensures.0), refl)
+pub loop-w-init : goal.loop-w-init
+loop-w-init c = (going_start c.requires.0.sound c.start-w.ensures.1 c.start-w.ensures.0, refl)
 
 pub overflow_mul-place : goal.overflow_mul-place
-overflow_mul-place c =
-    let a = c.args in
-    let p = c.requires in
-    let start' = c.start-w in
-    record { fits = omega (arith, going_few a.book.now p.0.sound a.band (standing_marks a.book.now start'.result) a.rows.now (standing_marks a.book.now c.loop-band.w) c.loop-band.w.rounds c.loop-band.rows c.loop-band.invariant.0) }
+overflow_mul-place c = record { fits = omega (arith, going_few c.requires.0.sound c.loop-w.invariant.0) }
 
 pub round-w-requires : goal.round-w-requires
 round-w-requires c =
-    let a = c.args in
     let p = c.requires in
-    let start' = c.start-w in
-    let i = c.loop-band in
-    let still' = c.still in
-    (p.0, i.invariant.0.marked, zeros_fair _ _ still'.ensures, still'.auto.flow ∙ i.invariant.1 ∙ p.1, going_few a.book.now p.0.sound a.band (standing_marks a.book.now start'.result) a.rows.now (standing_marks a.book.now i.w) i.w.rounds i.rows i.invariant.0)
+    let i = c.loop-w.invariant in
+    (p.0, i.0.marked, zeros_fair _ _ c.still.ensures, c.still.auto.flow ∙ i.1 ∙ p.1, going_few p.0.sound i.0)
 
 pub put_row-requires : goal.put_row-requires
-put_row-requires c =
-    let a = c.args in
-    let p = c.requires in
-    let start' = c.start-w in
-    let i = c.loop-band in
-    omega (arith, going_room a.book.now p.0.sound a.band (standing_marks a.book.now start'.result) a.rows.now (standing_marks a.book.now i.w) i.w.rounds i.rows i.invariant.0 p.2)
+put_row-requires c = omega (arith, going_room c.requires.0.sound c.loop-w.invariant.0 c.requires.2)
 
-pub returns-then-way-eq0 : goal.returns-then-way-eq0
-returns-then-way-eq0 c =
-    let a = c.args in
+pub returns-in-Stops : goal.returns-in-Stops
+returns-in-Stops c =
     let p = c.requires in
-    let start' = c.start-w in
-    let i = c.loop-band in
-    let round' = c.round-w in
-    let put-row' = c.put_row in
-    going_stops a.book.now p.0.sound a.band (standing_marks a.book.now start'.result) a.rows.now (standing_marks a.book.now i.w) i.w.rounds i.rows i.invariant.0 round'.result.x round'.result.row (standing_marks a.book.now round'.result) round'.ensures.0 p.2 _ put-row'.ensures round'.result refl refl round'.ensures.1 c.if-way-eq0.true
+    let w = c.round-w in
+    going_ended p.0.sound c.loop-w.invariant.0 w.ensures.0 p.2 c.put_row.ensures w.result refl refl w.ensures.1 c.in-Stops.is
 
-pub returns-then-way-eq3 : goal.returns-then-way-eq3
-returns-then-way-eq3 c =
-    let a = c.args in
+pub loop-w-smaller : goal.loop-w-smaller
+loop-w-smaller c =
     let p = c.requires in
-    let start' = c.start-w in
-    let i = c.loop-band in
-    let round' = c.round-w in
-    let put-row' = c.put_row in
-    going_ends a.book.now p.0.sound a.band (standing_marks a.book.now start'.result) a.rows.now (standing_marks a.book.now i.w) i.w.rounds i.rows i.invariant.0 round'.result.x round'.result.row (standing_marks a.book.now round'.result) round'.ensures.0 p.2 _ put-row'.ensures round'.result refl refl round'.ensures.1 c.if-way-eq3.true
+    let t = c.in-Takes in
+    going_less p.0.sound c.loop-w.invariant.0 c.round-w.ensures.0 p.2 c.put_row.ensures t.field-0 t.field-1 t.is
 
-pub loop-band-smaller : goal.loop-band-smaller
-loop-band-smaller c =
-    let a = c.args in
+pub loop-w-preserved : goal.loop-w-preserved
+loop-w-preserved c =
     let p = c.requires in
-    let start' = c.start-w in
-    let i = c.loop-band in
-    let round' = c.round-w in
-    let put-row' = c.put_row in
-    going_less a.book.now p.0.sound a.band (standing_marks a.book.now start'.result) a.rows.now (standing_marks a.book.now i.w) i.w.rounds i.rows i.invariant.0 round'.result.x round'.result.row (standing_marks a.book.now round'.result) round'.ensures.0 p.2 _ put-row'.ensures c.if-way-eq0.false c.if-way-eq3.false
-
-pub loop-band-preserved : goal.loop-band-preserved
-loop-band-preserved c =
-    let a = c.args in
-    let p = c.requires in
-    let start' = c.start-w in
-    let still' = c.still in
-    let i = c.loop-band in
-    let round' = c.round-w in
-    let put-row' = c.put_row in
-    (going_again a.book.now p.0.sound a.band (standing_marks a.book.now start'.result) a.rows.now (standing_marks a.book.now i.w) i.w.rounds i.rows i.invariant.0 round'.result.x round'.result.row (standing_marks a.book.now round'.result) round'.ensures.0 p.2 _ put-row'.ensures _ round'.ensures.1 c.if-way-eq0.false c.if-way-eq3.false, round'.auto.flow ∙ still'.auto.flow ∙ i.invariant.1)
+    let i = c.loop-w.invariant in
+    let w = c.round-w in
+    let t = c.in-Takes in
+    (going_again p.0.sound i.0 w.ensures.0 p.2 c.put_row.ensures w.ensures.1 t.field-0 t.field-1 t.is, w.auto.flow ∙ c.still.auto.flow ∙ i.1)

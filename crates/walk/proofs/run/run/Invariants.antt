@@ -7,10 +7,10 @@ use Rattle.book.specs.Format.{modules}
 use Rattle.std.specs.Prelude.{◌≡◌, length}
 use Rattle.walk.proofs.run.run.Given as goal
 
-abbrev pub invariant-loop-band : goal.invariant-loop-band
-invariant-loop-band l =
+abbrev pub invariant-loop-w : goal.invariant-loop-w
+invariant-loop-w l =
     Going l.book l.band (standing_marks l.book l.initial.w) (standing_marks l.book l.w) l.w.rounds l.initial.rows l.rows × (length l.flow ≡ length l.initial.flow)
 
-abbrev pub decreases-loop-band : goal.decreases-loop-band
-decreases-loop-band l =
+abbrev pub decreases-loop-w : goal.decreases-loop-w
+decreases-loop-w l =
     free_to (marks_of (standing_marks l.book l.w)) (modules l.book)
