@@ -1,14 +1,12 @@
 -- What the engine's answer tells its caller: the flow of zeros is fair, no flow has a higher value than the one that was raised, its numbers are small, and it is
 -- what the far side needs. Assumes nothing.
 use mathlib.Core.Path.{◌≡◌, sym, ◌∙◌, subst}
-use mathlib.Core.List.{List, [], ◌∷◌}
-use Prim.Native.Nat.{ℕ, suc, ◌+◌, ◌≤◌, ◌<◌}
+use mathlib.Core.List.{List}
+use Prim.Native.Nat.{ℕ, ◌≤◌, ◌<◌}
 use native.Mathlib.Omega.{arith}
-use lib.ListN.{length, get_or, set}
-use lib.Seq.{get_or-set_same, get_or-set_other}
+use lib.ListN.{length, get_or}
 use lib.IntN.{ℤ, pos}
 use lib.Signed.{◌≤ℤ◌}
-use borrow.Author.Count.{below_more}
 use Rattle.line.specs.Card.{Card, Side}
 use Rattle.line.specs.Flow.{Fair, value}
 use Rattle.line.proofs.Ways.{plainly}
@@ -22,14 +20,6 @@ use Rattle.flow.proofs.CardLaws.{card_made, grid_of}
 use Rattle.flow.proofs.RaiseLaws.{small_number}
 
 -- before raise: a flow of zeros
-pub zeros_more : (fl : List ℤ) (i : ℕ) → i < length fl → ((p : ℕ) → p < i → get_or fl p (pos 0) ≡ pos 0) → (p : ℕ) → p < i + 1 → get_or (set fl i (pos 0)) p (pos 0) ≡ pos 0
-zeros_more fl i l h = below_more _ i (λ p k. get_or-set_other fl i p (pos 0) (pos 0) (omega arith) ∙ h p k) (get_or-set_same fl i (pos 0) (pos 0) l)
-
-pub zeros_still : (fl : List ℤ) → ((p : ℕ) → p < length fl → get_or fl p (pos 0) ≡ pos 0) → Still fl
-unfolding Still
-zeros_still [] h = tt
-zeros_still (x ∷ fl) h = (h 0 (omega arith), zeros_still fl (λ p l. h (suc p) (omega arith)))
-
 pub zeros_fair : (c : Card) (fl : List ℤ) → Still fl → Fair c fl
 zeros_fair c fl z = (still_fair plainly c fl z).fair
 
