@@ -1,14 +1,10 @@
 use Rattle.split.proofs.Solves.{solved}
 use mathlib.Core.Path.{◌∙◌}
-use Rattle.flow.proofs.Raised.{raised_greatest, engine_kept}
 use native.Mathlib.Omega.{arith}
 use Rattle.split.proofs.engine.solve_in.Goals as goal
 
 pub write_side-requires : goal.write_side-requires
 write_side-requires c = omega (arith, c.raise.auto.how, c.requires.0.how, c.requires.3.for_near)
-
-pub far-requires : goal.far-requires
-far-requires c = (engine_kept _ _ _ _ _ _ _ c.raise.auto.queue c.raise.auto.how c.raise.auto.seen c.raise.auto.sums c.requires.0, raised_greatest _ _ _ _ _ c.raise.ensures)
 
 pub write_side-requires-2 : goal.write_side-requires-2
 write_side-requires-2 c = omega (arith, c.far.auto.how, c.raise.auto.how, c.requires.0.how, c.requires.3.for_far)
