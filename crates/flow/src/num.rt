@@ -36,15 +36,14 @@ pub fn sends(back: bool, f: i32) -> bool
 pub fn sent_by(f: i32) -> u32
     ensures { result ≡ sent f }
 {
-    if f > 0 { f as u32 } else { 0 }
+    f.max(0).unsigned_abs()
 }
 
 // What a number takes: what it would send if it were turned round.
 pub fn taken_by(f: i32) -> u32
-    requires { taken f ≤ 65535 }
     ensures { result ≡ taken f }
 {
-    sent_by(0 - f)
+    f.min(0).unsigned_abs()
 }
 
 // A number that sends d more.
@@ -67,9 +66,5 @@ pub fn minus(f: i32, d: u32) -> i32
 pub fn clear(places: &mut [u16])
     ensures { (length places.new ≡ length places.old) × ((i : ℕ) → i < length places.new → get_or places.new i 0 ≡ 0) }
 {
-    let mut i: usize = 0;
-    while i < places.len() {
-        places[i] = 0;
-        i += 1;
-    }
+    places.fill(0);
 }
