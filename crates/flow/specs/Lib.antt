@@ -3,3 +3,4 @@ pub mod Cards
 pub mod Push
 pub mod Raise
 pub mod Build
+pub mod Kinds

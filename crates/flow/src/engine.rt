@@ -80,9 +80,14 @@ pub fn raise(
             &mut *how,
             &mut *seen,
         );
-        let more = crate::push::push_makers(
-            mods, weight, nets, mark, &*how, &mut *sums, &mut *flow,
-        );
+        let ways = crate::push::Ways {
+            mods,
+            weight,
+            nets,
+            mark,
+            how: &*how,
+        };
+        let more = crate::push::push_makers(&ways, &mut *sums, &mut *flow);
         if !more {
             break;
         }

@@ -2,6 +2,7 @@
 #![tactic(auto)]
 
 pub mod engine;
+pub mod kind;
 pub mod num;
 pub mod push;
 pub mod search;
