@@ -3,7 +3,7 @@ ghost use Rattle.flow.specs.Search.{kind};
 ghost use Rattle.flow.specs.Kinds.{number_of};
 
 // What lets a step pass: the room of the net, the pin left, which takes less, or the pin entered, which sends less. Two bits hold a fourth number, which no step has.
-#[derive(Clone, Copy, PartialEq, Eq, Debug)]
+#[derive(Clone, Copy, PartialEq, Eq)]
 pub enum Kind {
     Room,
     Left,

@@ -1,7 +1,6 @@
-ghost use Rattle.std.specs.Prelude.{◌≡◌, ℕ, ◌≤◌, ◌<◌, length, get_or, ltb, pos, neg_ℤ, ◌+ℤ◌};
+ghost use Rattle.std.specs.Prelude.{◌≡◌, ℕ, ◌<◌, length, get_or, ltb};
 ghost use Rattle.line.specs.Flow.{sent, taken};
 ghost use Rattle.flow.specs.Search.{gives};
-ghost use Rattle.flow.specs.Cards.{Small};
 
 // A number of an array as an index.
 pub fn wide(x: u16) -> usize
@@ -44,22 +43,6 @@ pub fn taken_by(f: i32) -> u32
     ensures { result ≡ taken f }
 {
     f.min(0).unsigned_abs()
-}
-
-// A number that sends d more.
-pub fn plus(f: i32, d: u32) -> i32
-    requires { Small f × (d ≤ 65535) }
-    ensures { result ≡ f +ℤ pos d }
-{
-    f + d as i32
-}
-
-// A number that sends d less.
-pub fn minus(f: i32, d: u32) -> i32
-    requires { Small f × (d ≤ 65535) }
-    ensures { result ≡ f +ℤ neg_ℤ (pos d) }
-{
-    f - d as i32
 }
 
 // Sets every place to 0.

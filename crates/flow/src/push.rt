@@ -7,7 +7,7 @@ ghost use Rattle.flow.specs.Raise.{MayCarry, Carried, MayRound, Rounded};
 ghost use Rattle.flow.specs.Push.{room_at, way_room, Trail, Level, MayPush, PushedWay, new_sum, Pushable};
 
 use crate::kind::{Kind, step_kind};
-use crate::num::{minus, plus, sent_by, taken_by};
+use crate::num::{sent_by, taken_by};
 
 // The pin left, from the number of a module. How a module was reached stays one number: `Found` and `Trail` read it by `rank`, `left`, `kind` and `entered` (specs/Search).
 pub fn left_pin(x: u64) -> usize
@@ -65,8 +65,8 @@ fn push_step(nets: &[u16], x: u64, d: u32, sums: &mut [u32], flow: &mut [i32])
     let b = entered_pin(x);
     let n = usize::from(nets[a]);
     let before = sent_by(flow[a]) + sent_by(flow[b]);
-    let more = plus(flow[a], d);
-    let less = minus(flow[b], d);
+    let more = flow[a] + d as i32;
+    let less = flow[b] - d as i32;
     sums[n] = sums[n] + sent_by(more) + sent_by(less) - before;
     flow[a] = more;
     flow[b] = less;
