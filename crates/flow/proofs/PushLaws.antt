@@ -3,11 +3,15 @@ use mathlib.Core.Path.{◌≡◌, refl, sym, ap, ap₂, ◌∙◌, subst}
 use mathlib.Core.Bool.{Bool, true, false, cond}
 use mathlib.Core.Logic.{◌≢◌}
 use mathlib.Core.List.{List, [], ◌∷◌}
-use Prim.Native.Nat.{ℕ, zero, suc, ◌+◌, ◌≤◌, ◌<◌, min}
+use Prim.Native.Nat.{ℕ, zero, suc, ◌+◌, ◌^◌, ◌≤◌, ◌<◌, min}
 use native.Mathlib.Nat.{not-suc-le-zero}
 use native.Mathlib.Decide.{ℕ_discrete}
 use native.Mathlib.Omega.{arith}
 use lib.ListN.{length, get_or, set, length-set}
+use lib.Signed.{mag}
+use mir.Syntax.{w32}
+use mir.Val.{to_z, of_z, hbits, SFits}
+use Rattle.flow.proofs.Numbers.{read_back, shift_is}
 use lib.Seq.{get_or-set_same, get_or-set_other}
 use lib.IntN.{ℤ, pos, neg_ℤ, ◌+ℤ◌}
 use borrow.Author.Tests.{ne_eqb}
@@ -33,7 +37,15 @@ OnWay ms nt mk w sm₀ fl₀ d z sm fl u =
 
 -- ---- one push, as the code makes it
 
-pub push_code : (fl : List ℤ) (a b d : ℕ) {A B : ℕ} {more less : ℤ} → A ≡ a → B ≡ b → a ≢ b → more ≡ get_or fl A (pos 0) +ℤ pos d → less ≡ get_or fl B (pos 0) +ℤ neg_ℤ (pos d) →
+-- the number at a, as it is read at an index that is a
+pub read_at : (fl : List ℤ) {A a : ℕ} → A ≡ a → mag (get_or fl A (pos 0)) < 2 ^ hbits w32 → to_z w32 (of_z w32 (get_or fl A (pos 0))) ≡ get_or fl a (pos 0)
+read_at fl {A} {a} e g = read_back (get_or fl A (pos 0)) g ∙ ap (λ (i : ℕ). get_or fl i (pos 0)) e
+
+pub shifted_at : (g : ℤ → ℤ) (fl : List ℤ) {A a : ℕ} (d : ℕ) → A ≡ a → mag (get_or fl A (pos 0)) < 2 ^ hbits w32 → d ≤ 65535 → SFits w32 (get_or fl a (pos 0) +ℤ g (pos d)) →
+    to_z w32 (of_z w32 (to_z w32 (of_z w32 (get_or fl A (pos 0))) +ℤ g (to_z w32 d))) ≡ get_or fl a (pos 0) +ℤ g (pos d)
+shifted_at g fl {A} {a} d e m l h = rw (← e) (shift_is g (get_or fl A (pos 0)) d (record { sfits = m }) l (subst (λ (i : ℕ). SFits w32 (get_or fl i (pos 0) +ℤ g (pos d))) (sym e) h))
+
+pub push_code : (fl : List ℤ) (a b d : ℕ) {A B : ℕ} {more less : ℤ} → A ≡ a → B ≡ b → a ≢ b → more ≡ get_or fl a (pos 0) +ℤ pos d → less ≡ get_or fl b (pos 0) +ℤ neg_ℤ (pos d) →
     set (set fl A more) B less ≡ push fl a b d
 unfolding push
 push_code fl a b d {A} {B} {more} {less} ea eb ne em el =
