@@ -1,4 +1,4 @@
-// The way back from a maker to a meter, as a search tells it: what it carries, and the push along it.
+// The way back from a maker to a meter, as a search tells it: what it carries, and the push along it. The sums and the flow stay two slices, as a struct of `&mut` fields owes a clause on each field's ghost name at each call.
 ghost use Rattle.std.specs.Prelude.{◌≡◌, suc, min, ◌≤◌, ◌<◌, length, get_or, set, pos};
 ghost use Rattle.line.specs.Flow.{taken};
 ghost use Rattle.line.proofs.Push.{push};
@@ -82,7 +82,7 @@ pub struct Ways<'a> {
     pub how: &'a [u64],
 }
 
-impl<'a> Ways<'a> {
+impl Ways<'_> {
     // How much the way from z back to a meter can carry, and where it is narrow.
     fn room(&self, sums: &[u32], flow: &[i32], z: usize) -> Narrow
         requires { Trail self.now.mods.now self.now.nets.now self.now.mark.now self.now.how.now (length self.now.weight.now) × Level self.now.mods.now self.now.weight.now sums.now flow.now × In self.now.how.now z }
