@@ -147,13 +147,6 @@ module _ (c : Card) (ms ws nt mk w : List ℕ) (f : Field c ms ws nt mk w) (sm :
 
 -- ---- a round
 
-pub round_start : (ms ws nt mk w sm : List ℕ) (fl : List ℤ) → Rounded ms ws nt mk w sm fl 0 false sm fl
-round_start ms ws nt mk w sm fl c f rs s = record {
-  gained = record { steady = s; more = 0; gain = sym (+ℤ_idr (value c fl)) };
-  none = λ _. (refl, refl, (λ z l. absurd (not-suc-le-zero l)));
-  some = λ e. absurd (true≢false (sym e));
-}
-
 module _ (ms ws nt mk w sm : List ℕ) (fl : List ℤ) (i : ℕ) (any : Bool) (sm₁ : List ℕ) (fl₁ : List ℤ) (r : Rounded ms ws nt mk w sm fl i any sm₁ fl₁) where
   -- no maker, or one that was not reached
   pub round_skip : (get_or mk i 0 ≡ 2 → In w i → ⊥) → Rounded ms ws nt mk w sm fl (i + 1) any sm₁ fl₁

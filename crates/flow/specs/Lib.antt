@@ -4,3 +4,4 @@ pub mod Push
 pub mod Raise
 pub mod Build
 pub mod Board
+pub mod Kinds

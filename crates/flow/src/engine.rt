@@ -8,6 +8,7 @@ ghost use Rattle.flow.specs.Board.{board_card};
 ghost use Rattle.flow.specs.Raise.{Summed, Summable, Ready, Raised, Greatest};
 
 use crate::board::Board;
+use crate::push::Ways;
 
 // The flow of zeros. It is fair on every card, so that any card's first flow can be raised from it.
 pub fn still(flow: &mut [i32])
@@ -58,15 +59,14 @@ pub fn raise(
             &mut *how,
             &mut *seen,
         );
-        let more = crate::push::push_makers(
-            board.mods,
-            board.weight,
-            board.nets,
-            board.mark,
-            &*how,
-            &mut *sums,
-            &mut *flow,
-        );
+        let ways = Ways {
+            mods: board.mods,
+            weight: board.weight,
+            nets: board.nets,
+            mark: board.mark,
+            how: &*how,
+        };
+        let more = crate::push::push_makers(&ways, &mut *sums, &mut *flow);
         if !more {
             break;
         }

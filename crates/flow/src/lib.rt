@@ -3,6 +3,7 @@
 
 pub mod board;
 pub mod engine;
+pub mod kind;
 pub mod num;
 pub mod push;
 pub mod search;
