@@ -20,7 +20,7 @@ use Rattle.line.proofs.Tree.{Tree, walk_sound, walk_every, walk_pairwise, walk_l
 use Rattle.line.proofs.Turn.{Reached, turn, turn_mark, mark_1, negs, sent-negs, taken-negs, numbers-negs, total_sent-negs, valid_turn, reached_far, search_near}
 use Rattle.line.proofs.Cheap.{far_plain}
 use Rattle.line.proofs.Duality.{fair_plain, closed_plain, plain_closed, weak_duality, closed_price, price_closed}
-use Rattle.flow.specs.Search.{In, left, entered, St, Link, Found, Tables, Whole}
+use Rattle.flow.specs.Search.{In, left, entered, St, Link, Found, Tables}
 use Rattle.flow.specs.declared.board.Board.{Board}
 use Rattle.flow.specs.Board.{board_card}
 use Rattle.flow.specs.Cards.{card_of, Laid, Grid, side_of, up_of}
@@ -45,9 +45,6 @@ module _ (fs ms ws nt at pl mk : List ℕ) (laid : Laid fs ms ws mk) (tables : T
 
   valid : Valid (card_of fs ms ws mk)
   valid = card_valid fs ms ws mk laid
-
-  pub whole_of : Whole fs ms ws nt at pl sm fl (length mk)
-  whole_of = record { tables = tables; firsts = laid.firsts; below = laid.below; flows = s.flows; sums = s.sums.len ∙ made.nets; few = few }
 
   sees : Sees false (card_of fs ms ws mk) sm fl fl
   sees = record { sent = λ i. refl; taken = λ i. refl; sums = λ e l. sym (s.sums.sum e l) }

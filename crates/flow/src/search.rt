@@ -1,7 +1,9 @@
-ghost use Rattle.std.specs.Prelude.{◌≡◌, true, false, ◌+◌, ◌*◌, ◌≤◌, ◌<◌, length, get_or, ltb};
-ghost use Rattle.flow.specs.Search.{or, gives, way_from, st, Room, Spread, PinDone, PinsDone, Fitted, Seen, Begun, Sizes, Found, Kind, Enough, Mark};
+ghost use Rattle.std.specs.Prelude.{◌≡◌, ◌≢◌, ◌↔◌, IsTrue, ◌+◌, ◌*◌, ◌≤◌, ◌<◌, length, get_or, ltb};
+ghost use Rattle.flow.specs.Search.{or, gives, way_from, st, Room, Spread, PinDone, PinsDone, Fitted, Seen, Begun, Sizes, Found, Kind as Leaves, Enough, Mark};
+ghost use Rattle.flow.specs.Kinds.{number_of};
 
 use crate::board::Board;
+use crate::kind::Kind;
 
 // How the pins of one net are gone through: the pins lo .. hi, all of them or those that send; `from` is the pin left and the kind of step.
 #[derive(Clone, Copy)]
@@ -23,11 +25,11 @@ pub fn pack(rank: usize, from: u64, pin: usize) -> u64
 }
 
 // The pin left and the kind of step, as `pack` takes them.
-pub fn pack_from(a: u16, kind: u8) -> u64
-    requires { (a < 16384) × (kind ≤ 2) }
-    ensures { result ≡ (a * 4 + kind) * 65536 }
+pub fn pack_from(a: u16, kind: Kind) -> u64
+    requires { a < 16384 }
+    ensures { result ≡ (a * 4 + number_of kind) * 65536 }
 {
-    (a as u64 * 4 + kind as u64) * 65536
+    (u64::from(a) * 4 + kind as u64) * 65536
 }
 
 // Is a pin with the number f entered?
@@ -74,29 +76,33 @@ fn spread(
     tail
 }
 
-// The kind of the steps that leave by pin a: 1 by pin a, which takes less, else 0 by the net's room, else 2 by the pins that send alone. What a pin takes comes first, since the net's room may be small however much the pin takes.
-fn kind_of(sum: u32, weight: u16, takes: bool) -> u8
-    ensures { Kind sum weight takes result }
+// What lets the steps pass that leave by pin a: pin a, which takes less, else the net's room, else the pins that send alone. What a pin takes comes first, since the net's room may be small however much the pin takes.
+fn kind_of(sum: u32, weight: u16, takes: bool) -> Kind
+    ensures { Leaves sum weight takes (number_of result) }
 {
     if takes {
-        return 1;
+        Kind::Left
+    } else if sum < u32::from(weight) {
+        Kind::Room
+    } else {
+        Kind::Entered
     }
-    if sum < u32::from(weight) { 0 } else { 2 }
 }
 
 // Is there nothing new to be had from a net with the mark s by steps of this kind?
-fn seen_enough(s: u16, kind: u8) -> bool
-    ensures { (result ≡ true → Enough s kind) × (result ≡ false → Enough s kind → ⊥) }
+fn seen_enough(s: u16, kind: Kind) -> bool
+    ensures { IsTrue result ↔ Enough s (number_of kind) }
 {
-    s > 1 || kind == 2 && s == 1
+    s > 1 || kind == Kind::Entered && s == 1
 }
 
 // The mark of a net after steps of this kind from pin a: 1 if the pins that send were reached, a + 2 if all were.
-fn seen_mark(a: u16, kind: u8) -> u16
+fn seen_mark(a: u16, kind: Kind) -> u16
     requires { a < 16384 }
-    ensures { (kind ≡ 2 → result ≡ 1) × ((kind ≡ 2 → ⊥) → result ≡ a + 2) }
+    ensures only { number_of kind ≡ 2 → result ≡ 1 }
+    ensures all { number_of kind ≢ 2 → result ≡ a + 2 }
 {
-    if kind == 2 { 1 } else { a + 2 }
+    if kind == Kind::Entered { 1 } else { a + 2 }
 }
 
 // Whoever can be reached by leaving by pin a.
@@ -129,8 +135,8 @@ fn visit_pin(
         lo: usize::from(board.first[n]),
         hi: usize::from(board.first[n + 1]),
         from: pack_from(a, kind),
-        undo: pack_from(a, 2),
-        all: kind != 2,
+        undo: pack_from(a, Kind::Entered),
+        all: kind != Kind::Entered,
         back,
     };
     spread(board.mods, flow, scan, t, queue, how)
