@@ -27,7 +27,15 @@ fn near_in(
     requires { Engine first.now mods.now weight.now nets.now at.now pins.now mark.now queue.old how.old seen.old sums.old × Fair (card_of first.now mods.now weight.now mark.now) flow.old × (length flow.old ≡ length mods.now) × (bytes_for (length mark.now) ≤ length x.old) }
     ensures { NearRow (card_of first.now mods.now weight.now mark.now) x.old x.new }
 {
-    let board = Board { first, mods, weight, nets, at, pins, mark };
+    let board = Board {
+        first,
+        mods,
+        weight,
+        nets,
+        at,
+        pins,
+        mark,
+    };
     flow::engine::raise(
         &board,
         &mut *queue,
