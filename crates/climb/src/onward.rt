@@ -3,7 +3,10 @@ ghost use Rattle.std.specs.Prelude.{◌≡◌, ◌≢◌, false, suc, ◌+◌, �
 ghost use Rattle.flow.specs.Search.{In, rank, left};
 ghost use Rattle.flow.specs.Push.{Trail, Level};
 ghost use Rattle.reach.specs.Work.{numbers};
+ghost use Rattle.flow.specs.Kinds.{number_of};
 ghost use Rattle.climb.specs.Climb.{Lay, Named, Entry, Onward, Instead};
+
+use flow::kind::Kind;
 
 // A way of more steps than these is long.
 pub const LONG: usize = 40;
@@ -21,13 +24,16 @@ struct Look {
 }
 
 // The kind of the step from a pin that takes or not to one that sends or not: by the net's room only if neither does.
-fn kind_to(takes: bool, sends: bool) -> u8
-    ensures { (result ≤ 2) × (result ≡ 0 → (takes ≡ false) × (sends ≡ false)) }
+fn kind_to(takes: bool, sends: bool) -> Kind
+    ensures { (number_of result ≤ 2) × (number_of result ≡ 0 → (takes ≡ false) × (sends ≡ false)) }
 {
     if takes {
-        return 1;
+        Kind::Left
+    } else if sends {
+        Kind::Entered
+    } else {
+        Kind::Room
     }
-    if sends { 2 } else { 0 }
 }
 
 // The rank of the step that x tells.

@@ -7,13 +7,16 @@ ghost use Rattle.flow.specs.Raise.{Steady};
 ghost use Rattle.reach.specs.Work.{words, numbers};
 ghost use Rattle.climb.specs.Climb.{Lay, Named, Thread, Onward, Instead};
 
+use flow::kind::{Kind, step_kind};
+use flow::push::{Ways, push_from};
+
 // Puts the step that x tells to the module that it leads to. The room of a net is marked with the module that it leads to.
 fn put_step(mods: &[u16], nets: &[u16], x: u64, how: &mut [u64], seen: &mut [u16]) -> usize
     requires { (left x < length nets.now) × (entered x < length mods.now) × Named mods.now (length how.old) × Named nets.now (length seen.old) × (length how.old < 65535) }
     ensures { (result ≡ get_or mods.now (entered x) 0) × (how.new ≡ set how.old result x) × (kind x ≡ 0 → seen.new ≡ set seen.old (get_or nets.now (left x) 0) (result + 1)) × (kind x ≢ 0 → seen.new ≡ seen.old) }
 {
     let v = flow::num::wide(mods[flow::push::entered_pin(x)]);
-    if flow::push::step_kind(x) == 0 {
+    if step_kind(x) == Kind::Room {
         let n = flow::num::wide(nets[flow::push::left_pin(x)]);
         seen[n] = flow::num::narrow(v + 1);
     }
@@ -71,7 +74,7 @@ pub fn leave(
 {
     let x = how[u];
     let a = flow::push::left_pin(x);
-    if flow::push::step_kind(x) == 0 {
+    if step_kind(x) == Kind::Room {
         let n = flow::num::wide(nets[a]);
         seen[n] = 0;
     }
@@ -175,7 +178,14 @@ fn carry(
     requires { Lay first.now mods.now weight.now nets.now at.now pins.now mark.now × Steady (card_of first.now mods.now weight.now mark.now) mods.now sums.old flow.old × Thread mods.now nets.now mark.now how.old seen.old (length weight.now) z × (get_or mark.now z 0 ≡ 2) × (length seen.old ≡ length weight.now) × (length guide.now ≡ numbers) × (length rows.old ≡ words) }
     ensures { Steady (card_of first.now mods.now weight.now mark.now) mods.now sums.new flow.new × Thread mods.now nets.now mark.now how.new seen.new (length weight.now) z }
 {
-    let n = flow::push::push_from(mods, weight, nets, mark, &*how, z, &mut *sums, &mut *flow);
+    let ways = Ways {
+        mods,
+        weight,
+        nets,
+        mark,
+        how: &*how,
+    };
+    let n = push_from(&ways, z, &mut *sums, &mut *flow);
     if (n.room == 0) | (crate::onward::rank_of(how[z]) <= crate::onward::LONG) {
         return n.at;
     }

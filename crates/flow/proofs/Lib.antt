@@ -1,6 +1,7 @@
 -- The laws of the flow, a file a subject.
 pub mod Pins
 pub mod Sets
+pub mod BoardLaws
 pub mod Numbers
 pub mod SpreadLaws
 pub mod VisitLaws

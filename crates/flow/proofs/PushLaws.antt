@@ -3,29 +3,28 @@ use mathlib.Core.Path.{◌≡◌, refl, sym, ap, ap₂, ◌∙◌, subst}
 use mathlib.Core.Bool.{Bool, true, false, cond}
 use mathlib.Core.Logic.{◌≢◌}
 use mathlib.Core.List.{List, [], ◌∷◌}
-use Prim.Native.Nat.{ℕ, zero, suc, ◌+◌, ◌-◌, ◌≤◌, ◌<◌, ◌^◌, min}
+use Prim.Native.Nat.{ℕ, zero, suc, ◌+◌, ◌^◌, ◌≤◌, ◌<◌, min}
 use native.Mathlib.Nat.{not-suc-le-zero}
 use native.Mathlib.Decide.{ℕ_discrete}
 use native.Mathlib.Omega.{arith}
 use lib.ListN.{length, get_or, set, length-set}
-use lib.Seq.{get_or-set_same, get_or-set_other}
-use lib.IntN.{ℤ, pos, neg_ℤ, ◌+ℤ◌}
 use lib.Signed.{mag}
 use mir.Syntax.{w32}
-use mir.Val.{to_z, of_z, hbits}
-use mir.Facts.{to_z-of_z}
+use mir.Val.{to_z, of_z, hbits, SFits}
+use Rattle.flow.proofs.Numbers.{read_back, shift_is}
+use lib.Seq.{get_or-set_same, get_or-set_other}
+use lib.IntN.{ℤ, pos, neg_ℤ, ◌+ℤ◌}
 use borrow.Author.Tests.{ne_eqb}
-use Rattle.flow.proofs.Numbers.{read_back, plus_fits, minus_fits}
 use lib.Dec.{eqb}
 use Rattle.line.specs.Card.{Card, all_pins}
-use Rattle.line.specs.Flow.{sent, taken, total_sent, NetRule}
+use Rattle.line.specs.Flow.{sent, total_sent, NetRule}
 use Rattle.line.proofs.Ways.{plainly}
 use Rattle.line.proofs.Index.{net_at, start, numbers, each_at}
 use Rattle.line.proofs.Push.{push, push-sum, full, numbers_same, numbers_other}
 use Rattle.line.proofs.Path.{Step, pin_of, tail, Sound, Spare, AllOf, LeadsBack, Ready, ready_step, push_step, push_all, step_rules, step-length}
 use Rattle.line.proofs.Tree.{walk}
 use Rattle.line.proofs.Search.{number_sent, number_taken}
-use Rattle.flow.specs.Search.{In, rank, left, kind, entered}
+use Rattle.flow.specs.Search.{In, rank, left, entered}
 use Rattle.flow.specs.Cards.{Small, Sums, up_of}
 use Rattle.flow.specs.Push.{room_at, way_room, Trod, Ground, Rest, pushed_all, PushedWay, new_sum, Pushable}
 use Rattle.flow.proofs.TreeLaws.{number_at, pin_global}
@@ -36,29 +35,17 @@ OnWay ms nt mk w sm₀ fl₀ d z sm fl u =
     (c : Card) → Ground c ms nt mk w → Rest c ms nt w sm₀ fl₀ d (suc (length mk)) z →
     (k : ℕ) × (Rest c ms nt w sm fl d k u × (pushed_all c nt w fl d k u ≡ pushed_all c nt w fl₀ d (suc (length mk)) z))
 
--- ---- how much a step can carry
-
-module _ (ws nt sm : List ℕ) (fl : List ℤ) (x : ℕ) where
-  pub room_1 : {r : ℕ} → kind x ≡ 1 → r ≡ taken (get_or fl (left x) (pos 0)) → r ≡ room_at ws nt sm fl x
-  room_1 e h = rw e h
-
-  pub room_2 : {r : ℕ} → kind x ≡ 2 → r ≡ sent (get_or fl (entered x) (pos 0)) → r ≡ room_at ws nt sm fl x
-  room_2 e h = rw e h
-
-  pub room_0 : {r : ℕ} → (kind x ≡ 1 → ⊥) → (kind x ≡ 2 → ⊥) → r ≡ get_or ws (get_or nt (left x) 0) 0 - get_or sm (get_or nt (left x) 0) 0 → r ≡ room_at ws nt sm fl x
-  room_0 p q h = rw (ne_eqb (kind x) 1 p, ne_eqb (kind x) 2 q) h
-
 -- ---- one push, as the code makes it
 
-pub plus_back : {r : ℤ} (z : ℤ) (d : ℕ) → mag z < 2 ^ hbits w32 → Small z → d ≤ 65535 → r ≡ to_z w32 (of_z w32 z) +ℤ pos d → to_z w32 (of_z w32 r) ≡ z +ℤ pos d
-plus_back z d g s l e =
-    ap (λ (y : ℤ). to_z w32 (of_z w32 y)) (e ∙ ap (λ (y : ℤ). y +ℤ pos d) (read_back z g)) ∙ to_z-of_z {w = w32} {z = z +ℤ pos d} (plus_fits z d s l)
+-- the number at a, as it is read at an index that is a
+pub read_at : (fl : List ℤ) {A a : ℕ} → A ≡ a → mag (get_or fl A (pos 0)) < 2 ^ hbits w32 → to_z w32 (of_z w32 (get_or fl A (pos 0))) ≡ get_or fl a (pos 0)
+read_at fl {A} {a} e g = read_back (get_or fl A (pos 0)) g ∙ ap (λ (i : ℕ). get_or fl i (pos 0)) e
 
-pub minus_back : {r : ℤ} (z : ℤ) (d : ℕ) → mag z < 2 ^ hbits w32 → Small z → d ≤ 65535 → r ≡ to_z w32 (of_z w32 z) +ℤ neg_ℤ (pos d) → to_z w32 (of_z w32 r) ≡ z +ℤ neg_ℤ (pos d)
-minus_back z d g s l e =
-    ap (λ (y : ℤ). to_z w32 (of_z w32 y)) (e ∙ ap (λ (y : ℤ). y +ℤ neg_ℤ (pos d)) (read_back z g)) ∙ to_z-of_z {w = w32} {z = z +ℤ neg_ℤ (pos d)} (minus_fits z d s l)
+pub shifted_at : (g : ℤ → ℤ) (fl : List ℤ) {A a : ℕ} (d : ℕ) → A ≡ a → mag (get_or fl A (pos 0)) < 2 ^ hbits w32 → d ≤ 65535 → SFits w32 (get_or fl a (pos 0) +ℤ g (pos d)) →
+    to_z w32 (of_z w32 (to_z w32 (of_z w32 (get_or fl A (pos 0))) +ℤ g (to_z w32 d))) ≡ get_or fl a (pos 0) +ℤ g (pos d)
+shifted_at g fl {A} {a} d e m l h = rw (← e) (shift_is g (get_or fl A (pos 0)) d (record { sfits = m }) l (subst (λ (i : ℕ). SFits w32 (get_or fl i (pos 0) +ℤ g (pos d))) (sym e) h))
 
-pub push_code : (fl : List ℤ) (a b d : ℕ) {A B : ℕ} {more less : ℤ} → A ≡ a → B ≡ b → a ≢ b → more ≡ get_or fl A (pos 0) +ℤ pos d → less ≡ get_or fl B (pos 0) +ℤ neg_ℤ (pos d) →
+pub push_code : (fl : List ℤ) (a b d : ℕ) {A B : ℕ} {more less : ℤ} → A ≡ a → B ≡ b → a ≢ b → more ≡ get_or fl a (pos 0) +ℤ pos d → less ≡ get_or fl b (pos 0) +ℤ neg_ℤ (pos d) →
     set (set fl A more) B less ≡ push fl a b d
 unfolding push
 push_code fl a b d {A} {B} {more} {less} ea eb ne em el =
@@ -259,9 +246,6 @@ module _ (c : Card) (ms nt mk w : List ℕ) (g : Ground c ms nt mk w) (sm : List
       rw (← pushed_step, ← rest_tail) (sym (ap (λ (ts : List Step). push_all c fl d ts) parts.1)),
     ),
   )
-
-pub way_start : (ms nt mk w sm : List ℕ) (fl : List ℤ) (d z : ℕ) → OnWay ms nt mk w sm fl d z sm fl z
-way_start ms nt mk w sm fl d z c g r = (suc (length mk), (r, refl))
 
 pub way_step : (ms nt mk w sm₀ : List ℕ) (fl₀ : List ℤ) (d z : ℕ) (sm : List ℕ) (fl : List ℤ) (u : ℕ) {sm' : List ℕ} {fl' : List ℤ} {u' : ℕ} → OnWay ms nt mk w sm₀ fl₀ d z sm fl u → get_or mk u 0 ≢ 1 → d ≤ 65535 →
     fl' ≡ push fl (left (get_or w u 0)) (entered (get_or w u 0)) d →

@@ -2,21 +2,22 @@
 use mathlib.Core.Path.{◌≡◌, refl, sym, ap, ap₂, ◌∙◌, subst}
 use mathlib.Core.Bool.{Bool, true, false, cond, true≢false}
 use mathlib.Core.Logic.{◌≢◌, inr}
-use mathlib.Core.List.{List, [], ◌∷◌}
+use mathlib.Core.List.{List, ◌∷◌}
 use Prim.Native.Nat.{ℕ, zero, suc, ◌+◌, ◌-◌, ◌≤◌, ◌<◌, min}
-use native.Mathlib.Nat.{le_of_suc-le-suc, not-suc-le-zero}
 use native.Mathlib.Decide.{ℕ_discrete}
 use native.Mathlib.Omega.{arith}
 use borrow.Author.Count.{below_more}
-use lib.ListN.{length, take, drop, get_or, set, length-drop}
-use lib.Seq.{get_or-set_same, get_or-set_other, get_or-drop}
+use lib.ListN.{length, take, drop, get_or, set}
+use lib.Seq.{get_or-set_same, get_or-set_other}
 use lib.IntN.{ℤ, pos, ◌+ℤ◌, +ℤ_idr, +ℤ_assoc}
 use lib.Dec.{T, eqb, eqb→eq}
 use borrow.Author.Tests.{ne_eqb}
+use Rattle.std.specs.List.{sum_by}
+use Rattle.std.proofs.lemmas.List.Recursion.{is_sum_by}
 use Rattle.line.specs.Card.{Card}
 use Rattle.line.specs.Flow.{sent, taken, total_sent, NetRule, Fair, value, EachNet}
 use Rattle.line.proofs.Ways.{plainly}
-use Rattle.line.proofs.Index.{net_at, start, numbers, each_at, total_sent-suc}
+use Rattle.line.proofs.Index.{net_at, start, numbers, each_at}
 use Rattle.line.proofs.Path.{Step, tail, Sound, spare_by, spare_of, AllOf, Ready, least, least_spare, least_above, path_fair, path_value, path-length}
 use Rattle.line.proofs.Tree.{walk}
 use Rattle.line.proofs.Duality.{fair_plain}
@@ -145,13 +146,6 @@ module _ (c : Card) (ms ws nt mk w : List ℕ) (f : Field c ms ws nt mk w) (sm :
 
 -- ---- a round
 
-pub round_start : (ms ws nt mk w sm : List ℕ) (fl : List ℤ) → Rounded ms ws nt mk w sm fl 0 false sm fl
-round_start ms ws nt mk w sm fl c f rs s = record {
-  gained = record { steady = s; more = 0; gain = sym (+ℤ_idr (value c fl)) };
-  none = λ _. (refl, refl, (λ z l. absurd (not-suc-le-zero l)));
-  some = λ e. absurd (true≢false (sym e));
-}
-
 module _ (ms ws nt mk w sm : List ℕ) (fl : List ℤ) (i : ℕ) (any : Bool) (sm₁ : List ℕ) (fl₁ : List ℤ) (r : Rounded ms ws nt mk w sm fl i any sm₁ fl₁) where
   -- no maker, or one that was not reached
   pub round_skip : (get_or mk i 0 ≡ 2 → In w i → ⊥) → Rounded ms ws nt mk w sm fl (i + 1) any sm₁ fl₁
@@ -187,33 +181,12 @@ module _ (ms ws nt mk w sm : List ℕ) (fl : List ℤ) (i : ℕ) (any : Bool) (s
 
 -- ---- the sums of the nets
 
-take_mono : (xs : List ℤ) (k n : ℕ) → k ≤ n → total_sent (take k xs) ≤ total_sent (take n xs)
-unfolding total_sent
-take_mono xs zero n l = omega arith
-take_mono [] (suc k) n l = omega arith
-take_mono (x ∷ xs) (suc k) zero l = absurd (not-suc-le-zero l)
-take_mono (x ∷ xs) (suc k) (suc n) l = omega (arith, take_mono xs k n (le_of_suc-le-suc l))
-
-module _ (fl : List ℤ) (lo : ℕ) where
-  pub sum_none : total_sent (take (lo - lo) (drop lo fl)) ≡ 0
-  unfolding total_sent
-  sum_none = let e : lo - lo ≡ 0 = omega arith in rw e refl
-
-  pub sum_more : (i : ℕ) → lo ≤ i → i < length fl → total_sent (take (i + 1 - lo) (drop lo fl)) ≡ total_sent (take (i - lo) (drop lo fl)) + sent (get_or fl i (pos 0))
-  sum_more i l h =
-      let e : i + 1 - lo ≡ suc (i - lo) = omega arith in
-      let at : lo + (i - lo) ≡ i = omega arith in
-      ap (λ (k : ℕ). total_sent (take k (drop lo fl))) e ∙ total_sent-suc (drop lo fl) (i - lo) (omega (arith, length-drop lo fl))
-      ∙ ap (λ (z : ℤ). total_sent (take (i - lo) (drop lo fl)) + sent z) (get_or-drop lo fl (i - lo) (pos 0) ∙ ap (λ (k : ℕ). get_or fl k (pos 0)) at)
-
-  pub sum_below : (i hi : ℕ) → i ≤ hi → total_sent (take (i - lo) (drop lo fl)) ≤ total_sent (take (hi - lo) (drop lo fl))
-  sum_below i hi l = take_mono (drop lo fl) (i - lo) (hi - lo) (omega arith)
-
 pub summed_more : (fs : List ℕ) (fl : List ℤ) (sm : List ℕ) (n : ℕ) {v : ℕ} → n < length sm → v ≡ total_sent (part_of fs fl n) → Summed fs fl n sm → Summed fs fl (n + 1) (set sm n v)
 summed_more fs fl sm n {v} l e s = record { sum = below_more _ n (λ j k. get_or-set_other sm n j v 0 (omega arith) ∙ s.sum j k) (get_or-set_same sm n v 0 l ∙ e) }
 
-pub part_at : (fs : List ℕ) (fl : List ℤ) (n : ℕ) {lo hi : ℕ} → lo ≡ get_or fs n 0 → hi ≡ get_or fs (n + 1) 0 → total_sent (take (hi - lo) (drop lo fl)) ≡ total_sent (part_of fs fl n)
-part_at fs fl n el eh = rw (el, eh) refl
+pub part_sum : (fs : List ℕ) (fl : List ℤ) (n : ℕ) {lo hi : ℕ} → lo ≡ get_or fs n 0 → hi ≡ get_or fs (n + 1) 0 → total_sent (part_of fs fl n) ≡ sum_by sent (take (hi - lo) (drop lo fl))
+unfolding total_sent
+part_sum fs fl n el eh = rw (el, eh) (is_sum_by total_sent sent refl (λ _ _. refl) (part_of fs fl n))
 
 pub way_most : (ms ws nt mk w sm : List ℕ) (fl : List ℤ) (z : ℕ) {d : ℕ} → d ≡ way_room ms ws nt mk w sm fl (suc (length mk)) z → d ≤ 65535
 way_most ms ws nt mk w sm fl z e = omega (arith, e, way_top ms ws nt mk w sm fl (suc (length mk)) z)

@@ -1,14 +1,11 @@
--- What the engine's answer tells its caller: the flow of zeros is fair, no flow has a higher value than the one that was raised, its numbers are small, and it is
--- what the far side needs. Assumes nothing.
-use mathlib.Core.Path.{◌≡◌, sym, ◌∙◌, subst}
-use mathlib.Core.List.{List, [], ◌∷◌}
-use Prim.Native.Nat.{ℕ, suc, ◌+◌, ◌≤◌, ◌<◌}
+-- What the engine's answer tells its caller: the flow of zeros is fair, no flow has a higher value than the one that was raised, and its numbers are small. Assumes nothing.
+use mathlib.Core.Path.{sym, subst}
+use mathlib.Core.List.{List}
+use Prim.Native.Nat.{ℕ, ◌≤◌, ◌<◌}
 use native.Mathlib.Omega.{arith}
-use lib.ListN.{length, get_or, set}
-use lib.Seq.{get_or-set_same, get_or-set_other}
+use lib.ListN.{length, get_or}
 use lib.IntN.{ℤ, pos}
 use lib.Signed.{◌≤ℤ◌}
-use borrow.Author.Count.{below_more}
 use Rattle.line.specs.Card.{Card, Side}
 use Rattle.line.specs.Flow.{Fair, value}
 use Rattle.line.proofs.Ways.{plainly}
@@ -17,19 +14,11 @@ use Rattle.line.proofs.Duality.{weak_duality}
 use Rattle.line.proofs.Search.{Still, still_fair}
 use Rattle.flow.specs.Search.{Tables}
 use Rattle.flow.specs.Cards.{card_of, Laid, Small}
-use Rattle.flow.specs.Raise.{Engine, Raised, Greatest}
+use Rattle.flow.specs.Raise.{Raised}
 use Rattle.flow.proofs.CardLaws.{card_made, grid_of}
 use Rattle.flow.proofs.RaiseLaws.{small_number}
 
 -- before raise: a flow of zeros
-pub zeros_more : (fl : List ℤ) (i : ℕ) → i < length fl → ((p : ℕ) → p < i → get_or fl p (pos 0) ≡ pos 0) → (p : ℕ) → p < i + 1 → get_or (set fl i (pos 0)) p (pos 0) ≡ pos 0
-zeros_more fl i l h = below_more _ i (λ p k. get_or-set_other fl i p (pos 0) (pos 0) (omega arith) ∙ h p k) (get_or-set_same fl i (pos 0) (pos 0) l)
-
-pub zeros_still : (fl : List ℤ) → ((p : ℕ) → p < length fl → get_or fl p (pos 0) ≡ pos 0) → Still fl
-unfolding Still
-zeros_still [] h = tt
-zeros_still (x ∷ fl) h = (h 0 (omega arith), zeros_still fl (λ p l. h (suc p) (omega arith)))
-
 pub zeros_fair : (c : Card) (fl : List ℤ) → Still fl → Fair c fl
 zeros_fair c fl z = (still_fair plainly c fl z).fair
 
@@ -44,11 +33,3 @@ raised_small fs ms ws nt at pl mk sm fl s laid tables heavy r =
     let made = card_made fs ms ws mk laid in
     small_number (card_of fs ms ws mk) ms nt (grid_of (card_of fs ms ws mk) fs ms ws nt at pl (length mk) made tables)
     (λ e l. let k : e < length ws = omega (arith, made.nets) in omega (arith, made.weight e k, heavy e k)) fl r.fair.nets
-
--- before far: the flow that was raised, and the same room for the search
-pub raised_greatest : (c : Card) (ms sm : List ℕ) (fl : List ℤ) (s : Side) → Raised c ms sm fl s → Greatest c ms sm fl
-raised_greatest c ms sm fl s r = record { steady = record { fair = r.fair; sums = r.sums; flows = r.flows }; side = s; separates = r.near.cheapest.separates; value = r.value }
-
-pub engine_kept : (fs ms ws nt at pl mk : List ℕ) {q w sn sm q' w' sn' sm' : List ℕ} → length q' ≡ length q → length w' ≡ length w → length sn' ≡ length sn → length sm' ≡ length sm →
-    Engine fs ms ws nt at pl mk q w sn sm → Engine fs ms ws nt at pl mk q' w' sn' sm'
-engine_kept fs ms ws nt at pl mk eq ew en es e = record { laid = e.laid; tables = e.tables; pins = e.pins; modules = e.modules; queue = eq ∙ e.queue; how = ew ∙ e.how; seen = en ∙ e.seen; sums = es ∙ e.sums }

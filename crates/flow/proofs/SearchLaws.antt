@@ -3,17 +3,17 @@ use mathlib.Core.Path.{◌≡◌, refl, sym, ap, ◌∙◌, subst, subst₂}
 use mathlib.Core.Bool.{Bool}
 use mathlib.Core.Logic.{◌⊎◌, inl, inr, ⊎_elim}
 use mathlib.Core.List.{List, [], ◌∷◌}
-use Prim.Native.Nat.{ℕ, ◌+◌, ◌*◌, ◌≤◌, ◌<◌, zero-le}
+use Prim.Native.Nat.{ℕ, ◌+◌, ◌*◌, ◌≤◌, ◌<◌}
 use native.Mathlib.Nat.{not-suc-le-zero}
 use native.Mathlib.Omega.{arith}
 use lib.ListN.{length, get_or, set, take, length-set}
-use lib.Seq.{get_or-set_same, get_or-set_other, take-suc-set, take-length}
+use lib.Seq.{get_or-set_same, get_or-set_other, take-suc-set}
 use native.Mathlib.Numerals.{add-one}
 use borrow.Author.Count.{below_more}
 use lib.IntN.{ℤ}
-use Rattle.flow.specs.Search.{In, zeros, rank, left, kind, entered, Pin, Hop, St, st, Fresh, Grown, Room, Seen, ViaHop, PinsDone, Whole, Link, Mark, Begun, Found}
+use Rattle.flow.specs.Search.{In, zeros, rank, left, kind, entered, Pin, Hop, St, Fresh, Grown, Seen, ViaHop, PinsDone, Whole, Link, Mark, Begun, Found}
 use Rattle.flow.proofs.Pins.{split}
-use Rattle.flow.proofs.Sets.{in_eq, in_set, in_set_here, set_in, zeros-append, zeros_one, in_length}
+use Rattle.flow.proofs.Sets.{in_eq, in_set, in_set_here, set_in, zeros-append, zeros_one}
 use Rattle.flow.proofs.SpreadLaws.{grows, ranked_in}
 
 pub record Placed (s : St) (t m : ℕ) : Type 0 where
@@ -101,35 +101,6 @@ cleared x n l h = below_more _ n (λ j k. get_or-set_other x n j 0 0 (omega arit
 -- ---- the search
 
 module _ (bk : Bool) (fs ms ws : List ℕ) (fl : List ℤ) (sm nt mk : List ℕ) where
-  pub bfs_start : {q w sn : List ℕ} {k t : ℕ} → length sn ≡ length ws → ((n : ℕ) → n < length sn → get_or sn n 0 ≡ 0) → k ≡ Mark bk → Begun k mk (length mk) q w t → Bfs bk fs ms ws fl sm nt mk (st q w sn) 0 t
-  bfs_start {q} {w} {sn} {k} {t} ls z ek b =
-      let xw = b.lw in let xq = b.lq in record {
-        len = xw;
-        lenq = xq ∙ sym xw;
-        lens = ls;
-        full = let c = b.count in let k : take (length mk) w ≡ w = subst (λ (n : ℕ). take n w ≡ w) xw (take-length w) in
-            omega (arith, subst (λ (y : List ℕ). t + zeros y ≡ length mk) k c);
-        heads = zero-le;
-        place = λ m i. let p = b.place m (small m i) i in record { place = p.0; high = p.1; rank = p.2; queued = p.3 };
-        inq = λ j l. (b.inq j l).1;
-        meters = λ m l e. b.meters m l (e ∙ sym ek);
-        link = λ m i. inl (b.only m (small m i) i ∙ ek);
-        seen = record {
-          part = λ n l h. let e = z n (omega arith) in absurd (omega arith);
-          whole = λ n l h. let e = z n (omega arith) in absurd (omega arith);
-        };
-        done = λ m i h. let p = b.place m (small m i) i in let e = p.2 in absurd (omega arith);
-      }
-    where
-      small : (m : ℕ) → In w m → m < length mk
-      small m i = let l = in_length w m i in let x = b.lw in omega arith
-
-  pub bfs_low : {s : St} {h t u : ℕ} → Bfs bk fs ms ws fl sm nt mk s h t → h < t → u ≡ get_or s.q h 0 → u < length s.w
-  bfs_low {s} {h} {t} {u} b l e = in_length s.w u (ranked_in s.w u h (subst (λ (u : ℕ). rank (get_or s.w u 0) ≡ h + 1) (sym e) (b.inq h l)))
-
-  pub bfs_room : {s : St} {h t : ℕ} → Bfs bk fs ms ws fl sm nt mk s h t → ((p : ℕ) → p < length ms → get_or ms p 0 < length mk) → length mk < 65535 → Room ms s.q s.w t
-  bfs_room b g f = let x = b.len in record { below = λ p l. let y = g p l in omega arith; lenq = b.lenq; full = b.full; few = omega arith }
-
   module _ (at pl : List ℕ) where
     pub bfs_more : {s s' : St} {h t t' u M : ℕ} → Bfs bk fs ms ws fl sm nt mk s h t → Whole fs ms ws nt at pl sm fl M → h < t → u ≡ get_or s.q h 0
         → PinsDone bk fs ms ws fl sm nt pl u (get_or at u 0) (get_or at (u + 1) 0) s t s' t' → Bfs bk fs ms ws fl sm nt mk s' (h + 1) t'
@@ -156,9 +127,6 @@ module _ (bk : Bool) (fs ms ws : List ℕ) (fl : List ℤ) (sm nt mk : List ℕ)
 
         in_u : In s.w u
         in_u = subst (λ (i : ℕ). In s.w i) (sym eu) (ranked_in s.w (get_or s.q h 0) h (b.inq h l))
-
-        rank_u : rank (get_or s.w u 0) ≡ h + 1
-        rank_u = subst (λ (i : ℕ). rank (get_or s.w i 0) ≡ h + 1) (sym eu) (b.inq h l)
 
         kept : (m : ℕ) → In s.w m → Placed s t m → Placed s' t' m
         kept m j p = record { place = p.place; high = let x = p.high in let y = g.tails in omega arith; rank = ap rank (g.kept m j) ∙ p.rank; queued = g.keptq p.place p.high ∙ p.queued }

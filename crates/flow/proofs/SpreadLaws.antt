@@ -11,7 +11,7 @@ use lib.Seq.{get_or-set_same, get_or-set_other}
 use lib.IntN.{ℤ}
 use lib.Dec.{ltb}
 use Rattle.flow.specs.Search.{or, gift, In, rank, Fresh, Grown, Room, way_from, ViaNet, Spread}
-use Rattle.flow.proofs.Pins.{pins_none, pins_more, pin_wider, split}
+use Rattle.flow.proofs.Pins.{pins_more, pin_wider, split}
 use Rattle.flow.proofs.Sets.{in_eq, in_set_here, set_in, zeros-set}
 
 abbrev pub Sub : List ℕ → List ℕ → Type 0
@@ -106,12 +106,6 @@ grown_mark New q w t m x z lw lq r n = record {
 -- ---- spreading
 
 module _ (ms : List ℕ) (fl : List ℤ) (all bk : Bool) (from undo lo : ℕ) where
-  pub spread_none : (q w : List ℕ) (t : ℕ) → Spread ms fl all bk from undo lo lo q w t q w t
-  spread_none q w t = record {
-    grown = grown_none _ q w t;
-    done = λ b p g. pins_none (λ (k : ℕ). In w (get_or ms k 0)) lo b p;
-  }
-
   wider : {i m x : ℕ} → ViaNet ms fl all bk from undo lo i m x → ViaNet ms fl all bk from undo lo (i + 1) m x
   wider v = record { at = v.at; number = v.number; pin = pin_wider v.pin; gives = v.gives; to = v.to }
 
@@ -160,11 +154,3 @@ marks {ms} {q₀} {w₀} {q} {w} rm g m l z =
       tail = omega (arith, rm.lenq, rm.full, g.lenq, g.lenw);
       few = omega (arith, rm.few, rm.full, g.lenw);
     }
-
-pub room_more : {ms q₀ w₀ q w : List ℕ} {New : ℕ → ℕ → Type 0} {t₀ t : ℕ} → Room ms q₀ w₀ t₀ → Grown New q₀ w₀ t₀ q w t → Room ms q w t
-room_more rm g = let a = g.lenq in let b = g.lenw in let d = g.count in record {
-  below = λ p l. omega (arith, rm.below p l);
-  lenq = omega (arith, rm.lenq);
-  full = omega (arith, rm.full);
-  few = omega (arith, rm.few);
-}

@@ -9,12 +9,12 @@ use native.Mathlib.Omega.{arith}
 use lib.ListN.{length, get_or, set, length-set}
 use lib.Seq.{get_or-set_same, get_or-set_other}
 use lib.IntN.{ℤ}
-use lib.Dec.{T, ltb, eqb, eqb→eq}
-use Rattle.flow.specs.Search.{or, gift, In, rank, left, kind, entered, Pin, Way, Hop, St, st, Grown, way_from, ViaNet, Spread, Kind, Enough, Visit, Seen, Marked, ViaHop, PinDone, PinsDone, Whole}
-use Rattle.flow.proofs.Pins.{pins_none, pins_more}
+use lib.Dec.{ltb}
+use Rattle.flow.specs.Search.{or, gift, In, rank, left, kind, entered, Pin, Way, Hop, St, st, Grown, way_from, ViaNet, Spread, Kind, Enough, Visit, Seen, Marked, ViaHop, PinDone, PinsDone}
+use Rattle.flow.proofs.Pins.{pins_more}
 use Rattle.flow.proofs.Sets.{clash}
 use Rattle.flow.proofs.Numbers.{above_true, true_above}
-use Rattle.flow.proofs.SpreadLaws.{grows, grown_none, grown-map, grown_trans}
+use Rattle.flow.proofs.SpreadLaws.{grows, grown-map, grown_trans}
 
 -- ---- one pin
 
@@ -70,30 +70,8 @@ way_picks bk fl sum weight k k' a b takes all et kd ea w = go (ℕ_discrete k 2)
     go (no n) = rw (ea n)
     go (yes e) = or_right all (true_above (gift bk fl b) (only_back bk fl sum weight k k' a b takes et kd e w))
 
--- a net whose every pin was reached has nothing new
-pub pin_whole : (bk : Bool) (fs ms ws : List ℕ) (fl : List ℤ) (sm nt : List ℕ) (a : ℕ) → Visit fs ms ws nt sm fl a → (s : St) (t : ℕ) → Seen bk fs ms ws fl s.w s.sn →
-    1 < get_or s.sn (get_or nt a 0) 0 → PinDone bk fs ms ws fl sm nt a s t s t
-pin_whole bk fs ms ws fl sm nt a v s t seen l = record {
-  grown = grown_none _ s.q s.w t;
-  marked = record { len = refl; kept = λ n h. refl; opens = λ m i. inl i };
-  seen = seen;
-  done = λ k b h. seen.whole (get_or nt a 0) v.net l b h.enters;
-}
-
 module _ (bk : Bool) (fs ms ws : List ℕ) (fl : List ℤ) (sm nt : List ℕ) (a k : ℕ) (takes : Bool) (v : Visit fs ms ws nt sm fl a)
     (et : takes ≡ ltb 0 (gift (not bk) fl a)) (kd : Kind (get_or sm (get_or nt a 0) 0) (get_or ws (get_or nt a 0) 0) takes k) where
-  -- nothing new
-  pub pin_skip : (s : St) (t : ℕ) → Seen bk fs ms ws fl s.w s.sn → Enough (get_or s.sn (get_or nt a 0) 0) k → PinDone bk fs ms ws fl sm nt a s t s t
-  pin_skip s t seen e = record {
-    grown = grown_none _ s.q s.w t;
-    marked = record { len = refl; kept = λ n h. refl; opens = λ m i. inl i };
-    seen = seen;
-    done = λ k' b h. ⊎_elim
-        (λ l. seen.whole (get_or nt a 0) v.net l b h.enters)
-        (λ p. let one = p.1 in seen.part (get_or nt a 0) v.net (omega arith) b h.enters (only_back bk fl _ _ k k' a b takes et kd p.0 h.way))
-        e;
-  }
-
   module _ (all : Bool) (ea : k ≡ 2 → all ≡ false) (eb : (k ≡ 2 → ⊥) → all ≡ true) (from undo r : ℕ) (ef : from ≡ (a * 4 + k) * 65536) (eu : undo ≡ (a * 4 + 2) * 65536) (r1 : k ≡ 2 → r ≡ 1) (r2 : (k ≡ 2 → ⊥) → r ≡ a + 2) where
     pub pin_spread : (s : St) (t : ℕ) (q w : List ℕ) (t' : ℕ) → Seen bk fs ms ws fl s.w s.sn → (Enough (get_or s.sn (get_or nt a 0) 0) k → ⊥) → get_or nt a 0 < length s.sn →
         Spread ms fl all bk from undo (get_or fs (get_or nt a 0) 0) (get_or fs (get_or nt a 0 + 1) 0) s.q s.w t q w t' →
@@ -158,29 +136,10 @@ module _ (bk : Bool) (fs ms ws : List ℕ) (fl : List ℤ) (sm nt : List ℕ) (a
                 (rw (eb (λ q. let o = r1 q in absurd (omega arith))))
             go (no e) = grows sp.grown (get_or ms b 0) (seen.whole n' l (subst (λ (i : ℕ). 1 < i) (get_or-set_other s.sn n n' r 0 e) h) b p)
 
-pub kind_all : (k : ℕ) → k ≡ 2 → not (eqb k 2) ≡ false
-kind_all k e = rw e
-
-pub kind_some : (k : ℕ) → (k ≡ 2 → ⊥) → not (eqb k 2) ≡ true
-kind_some k n = go (eqb k 2) (eqb→eq k 2)
-  where
-    go : (b : Bool) → (T b → k ≡ 2) → not b ≡ true
-    go true f = absurd (n (f tt))
-    go false f = refl
-
-pub enough_eq : (s k : ℕ) → k ≡ 2 → s ≤ 1 → (eqb s 1 ≡ true → Enough s k) × (eqb s 1 ≡ false → Enough s k → ⊥)
-enough_eq s k e l = (
-  (λ t. inr (e, eqb→eq s 1 (subst T (sym t) tt))),
-  (λ f g. ⊎_elim (λ h. absurd (omega arith)) (λ p. clash (ap (λ (i : ℕ). eqb i 1) p.1) f) g),
-)
-
 -- ---- one module
 
 abbrev Opened : List ℕ → List ℕ → ℕ → Type 0
 Opened nt sn x = kind x ≡ 0 → get_or sn (get_or nt (left x) 0) 0 ≡ left x + 2
-
-pub marked_none : (nt : List ℕ) (s : St) → Marked nt s s
-marked_none nt s = record { len = refl; kept = λ n h. refl; opens = λ m i. inl i }
 
 pub marked_trans : {nt : List ℕ} {New : ℕ → ℕ → Type 0} {s₀ s₁ s₂ : St} {t₁ t₂ : ℕ} → Grown New s₁.q s₁.w t₁ s₂.q s₂.w t₂ → Marked nt s₀ s₁ → Marked nt s₁ s₂ → Marked nt s₀ s₂
 marked_trans {nt} {New} {s₀} {s₁} {s₂} g m n = record {
@@ -194,30 +153,6 @@ marked_trans {nt} {New} {s₀} {s₁} {s₂} g m n = record {
         (λ e. let o = f e in n.kept (get_or nt (left (get_or s₁.w i 0)) 0) (omega arith) ∙ o)
 
 module _ (bk : Bool) (fs ms ws : List ℕ) (fl : List ℤ) (sm nt at pl : List ℕ) where
-  pub visit_of : {M u i : ℕ} → Whole fs ms ws nt at pl sm fl M → u < M → Pin (get_or at u 0) (get_or at (u + 1) 0) i → Visit fs ms ws nt sm fl (get_or pl i 0)
-  visit_of {M} {u} {i} w l p =
-      let a = get_or pl i 0 in
-      let o = w.tables.own u i l p in
-      let q = w.tables.net a o.0 in record {
-        pin = o.0;
-        nts = w.tables.counts;
-        flows = w.flows;
-        few = w.few;
-        firsts = w.firsts;
-        sums = w.sums;
-        net = q.0;
-        on = q.1;
-        ends = w.tables.inside (get_or nt a 0) q.0;
-      }
-
-  pub pins_start : (u lo : ℕ) (s : St) (t : ℕ) → Seen bk fs ms ws fl s.w s.sn → PinsDone bk fs ms ws fl sm nt pl u lo lo s t s t
-  pins_start u lo s t seen = record {
-    grown = grown_none _ s.q s.w t;
-    marked = marked_none nt s;
-    seen = seen;
-    done = pins_none (λ (j : ℕ). (k b : ℕ) → Hop bk fs ws fl sm nt k (get_or pl j 0) b → In s.w (get_or ms b 0)) lo;
-  }
-
   pub pins_step : {u lo i t₀ t₁ t₂ : ℕ} {s₀ s₁ s₂ : St} → PinsDone bk fs ms ws fl sm nt pl u lo i s₀ t₀ s₁ t₁ → get_or ms (get_or pl i 0) 0 ≡ u
       → PinDone bk fs ms ws fl sm nt (get_or pl i 0) s₁ t₁ s₂ t₂ → PinsDone bk fs ms ws fl sm nt pl u lo (i + 1) s₀ t₀ s₂ t₂
   pins_step {u} {lo} {i} {t₀} {t₁} {t₂} {s₀} {s₁} {s₂} d e p = record {

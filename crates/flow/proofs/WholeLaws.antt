@@ -20,10 +20,13 @@ use Rattle.line.proofs.Tree.{Tree, walk_sound, walk_every, walk_pairwise, walk_l
 use Rattle.line.proofs.Turn.{Reached, turn, turn_mark, mark_1, negs, sent-negs, taken-negs, numbers-negs, total_sent-negs, valid_turn, reached_far, search_near}
 use Rattle.line.proofs.Cheap.{far_plain}
 use Rattle.line.proofs.Duality.{fair_plain, closed_plain, plain_closed, weak_duality, closed_price, price_closed}
-use Rattle.flow.specs.Search.{In, left, entered, St, Link, Found, Tables, Whole}
+use Rattle.flow.specs.Search.{In, left, entered, St, Link, Found, Tables}
+use Rattle.flow.specs.declared.board.Board.{Board}
+use Rattle.flow.specs.Board.{board_card}
 use Rattle.flow.specs.Cards.{card_of, Laid, Grid, side_of, up_of}
 use Rattle.flow.specs.Push.{Trod}
-use Rattle.flow.specs.Raise.{Field, Route, Steady, OpenWay, Gained, Summed, Summable, part_of, Raised, Greatest}
+use Rattle.flow.specs.Raise.{Field, Route, Routes, Steady, OpenWay, Gained, Summed, Summable, part_of, Raised, Greatest}
+use Rattle.flow.proofs.BoardLaws.{tables_of, heavy_of}
 use Rattle.flow.proofs.CardLaws.{Made, card_made, card_valid, card_modules, card_mark, grid_of, run_net}
 use Rattle.flow.proofs.TreeLaws.{rank_of, opener_of, Sees, found_tree, found_spare, found_reached}
 
@@ -42,9 +45,6 @@ module _ (fs ms ws nt at pl mk : List ℕ) (laid : Laid fs ms ws mk) (tables : T
 
   valid : Valid (card_of fs ms ws mk)
   valid = card_valid fs ms ws mk laid
-
-  pub whole_of : Whole fs ms ws nt at pl sm fl (length mk)
-  whole_of = record { tables = tables; firsts = laid.firsts; below = laid.below; flows = s.flows; sums = s.sums.len ∙ made.nets; few = few }
 
   sees : Sees false (card_of fs ms ws mk) sm fl fl
   sees = record { sent = λ i. refl; taken = λ i. refl; sums = λ e l. sym (s.sums.sum e l) }
@@ -134,6 +134,22 @@ module _ (fs ms ws nt at pl mk : List ℕ) (laid : Laid fs ms ws mk) (tables : T
       value = closed_price (card_of fs ms ws mk) valid fl s.fair (side_of t.w) (record { meters = reached.meters; makers = no_maker n }) (closed_plain (card_of fs ms ws mk) (side_of t.w) fl reached.closed);
       near = search_near (card_of fs ms ws mk) valid fl s.fair (side_of t.w) reached (no_maker n);
     }
+
+-- what a search on a board tells of the round that it begins
+pub record Searched (c : Card) (ms ws nt mk w sm : List ℕ) (fl : List ℤ) : Type 0 where
+  pub field : Field c ms ws nt mk w
+  pub routes : Routes c nt mk w
+  pub opens : (z : ℕ) → z < length mk → get_or mk z 0 ≡ 2 → In w z → OpenWay c nt mk w fl z
+  pub near : ((z : ℕ) → z < length mk → get_or mk z 0 ≡ 2 → In w z → ⊥) → Raised c ms sm fl (side_of w)
+
+pub searched : (b : Board) → Laid b.first.now b.mods.now b.weight.now b.mark.now → {sm : List ℕ} {fl : List ℤ} → Steady (board_card b) b.mods.now sm fl → (t : St)
+    → Found false b.first.now b.mods.now b.weight.now fl sm b.nets.now b.mark.now t → Searched (board_card b) b.mods.now b.weight.now b.nets.now b.mark.now t.w sm fl
+searched b laid s t f = record {
+  field = field_of _ _ _ _ _ _ _ laid (tables_of b) b.few (heavy_of b) _ _ s t f;
+  routes = route_of _ _ _ _ _ _ _ laid (tables_of b) b.few (heavy_of b) _ _ s t f;
+  opens = open_of _ _ _ _ _ _ _ laid (tables_of b) b.few (heavy_of b) _ _ s t f;
+  near = raised_of _ _ _ _ _ _ _ laid (tables_of b) b.few (heavy_of b) _ _ s t f;
+}
 
 -- ---- the rounds end
 

@@ -80,7 +80,16 @@ pub record Summable (fs : List ℕ) (fl : List ℤ) (N : ℕ) : Type 0 where
 
 -- ---- the whole
 
--- the arrays and the room for the search: what `raise` and `far` ask
+-- the arrays of a board and the room for the search: what `raise` and `far` ask beside the board
+pub record Ready (fs ms ws mk q w sn sm : List ℕ) : Type 0 where
+  pub laid : Laid fs ms ws mk
+  pub modules : length mk < 65535
+  pub queue : length q ≡ length mk
+  pub how : length w ≡ length mk
+  pub seen : length sn ≡ length ws
+  pub sums : length sm ≡ length ws
+
+-- the same with what a board says of its arrays
 pub record Engine (fs ms ws nt at pl mk q w sn sm : List ℕ) : Type 0 where
   pub laid : Laid fs ms ws mk
   pub tables : Tables fs ms ws nt at pl (length mk)

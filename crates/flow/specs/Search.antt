@@ -183,6 +183,11 @@ pub record Tables (fs ms ws nt at pl : List ℕ) (M : ℕ) : Type 0 where
   pub own : (u k : ℕ) → u < M → Pin (get_or at u 0) (get_or at (u + 1) 0) k → (get_or pl k 0 < length ms) × (get_or ms (get_or pl k 0) 0 ≡ u)
   pub all : (a : ℕ) → a < length ms → (k : ℕ) × Pin (get_or at (get_or ms a 0) 0) (get_or at (get_or ms a 0 + 1) 0) k × (get_or pl k 0 ≡ a)
 
+-- a flow, and what the pins of each net send, are as long as the pins and the nets
+pub record Fitted (ms ws sm : List ℕ) (fl : List ℤ) : Type 0 where
+  pub flows : length fl ≡ length ms
+  pub sums : length sm ≡ length ws
+
 -- all that the search reads
 pub record Whole (fs ms ws nt at pl sm : List ℕ) (fl : List ℤ) (M : ℕ) : Type 0 where
   pub tables : Tables fs ms ws nt at pl M

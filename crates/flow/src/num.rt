@@ -1,7 +1,6 @@
-ghost use Rattle.std.specs.Prelude.{◌≡◌, ℕ, ◌≤◌, ◌<◌, length, get_or, ltb, pos, neg_ℤ, ◌+ℤ◌};
+ghost use Rattle.std.specs.Prelude.{◌≡◌, ℕ, ◌<◌, length, get_or, ltb};
 ghost use Rattle.line.specs.Flow.{sent, taken};
 ghost use Rattle.flow.specs.Search.{gives};
-ghost use Rattle.flow.specs.Cards.{Small};
 
 // A number of an array as an index.
 pub fn wide(x: u16) -> usize
@@ -36,40 +35,19 @@ pub fn sends(back: bool, f: i32) -> bool
 pub fn sent_by(f: i32) -> u32
     ensures { result ≡ sent f }
 {
-    if f > 0 { f as u32 } else { 0 }
+    f.max(0).unsigned_abs()
 }
 
 // What a number takes: what it would send if it were turned round.
 pub fn taken_by(f: i32) -> u32
-    requires { taken f ≤ 65535 }
     ensures { result ≡ taken f }
 {
-    sent_by(0 - f)
-}
-
-// A number that sends d more.
-pub fn plus(f: i32, d: u32) -> i32
-    requires { Small f × (d ≤ 65535) }
-    ensures { result ≡ f +ℤ pos d }
-{
-    f + d as i32
-}
-
-// A number that sends d less.
-pub fn minus(f: i32, d: u32) -> i32
-    requires { Small f × (d ≤ 65535) }
-    ensures { result ≡ f +ℤ neg_ℤ (pos d) }
-{
-    f - d as i32
+    f.min(0).unsigned_abs()
 }
 
 // Sets every place to 0.
 pub fn clear(places: &mut [u16])
     ensures { (length places.new ≡ length places.old) × ((i : ℕ) → i < length places.new → get_or places.new i 0 ≡ 0) }
 {
-    let mut i: usize = 0;
-    while i < places.len() {
-        places[i] = 0;
-        i += 1;
-    }
+    places.fill(0);
 }

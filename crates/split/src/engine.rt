@@ -8,6 +8,7 @@ ghost use Rattle.flow.specs.Build.{Buildable};
 ghost use Rattle.split.specs.Solved.{Rooms, Slices, Begins, Solved};
 
 use book::Book;
+use flow::board::Board;
 
 // Near, far and flow, from any fair flow, in lent work.
 fn solve_in(
@@ -29,7 +30,7 @@ fn solve_in(
     requires { Engine first.now mods.now weight.now nets.now at.now pins.now mark.now queue.old how.old seen.old sums.old × Fair (card_of first.now mods.now weight.now mark.now) flow.old × (length flow.old ≡ length mods.now) × Rooms (length mark.now) near.old far.old }
     ensures { Solved (card_of first.now mods.now weight.now mark.now) near.old far.old near.new far.new flow.new }
 {
-    flow::engine::raise(
+    let board = Board {
         first,
         mods,
         weight,
@@ -37,6 +38,9 @@ fn solve_in(
         at,
         pins,
         mark,
+    };
+    flow::engine::raise(
+        &board,
         &mut *queue,
         &mut *how,
         &mut *seen,
@@ -44,20 +48,7 @@ fn solve_in(
         &mut *flow,
     );
     crate::bits::write_side(&*how, true, &mut *near);
-    flow::engine::far(
-        first,
-        mods,
-        weight,
-        nets,
-        at,
-        pins,
-        mark,
-        &*sums,
-        &*flow,
-        &mut *queue,
-        &mut *how,
-        &mut *seen,
-    );
+    flow::engine::far(&board, &*sums, &*flow, &mut *queue, &mut *how, &mut *seen);
     crate::bits::write_side(&*how, false, &mut *far);
 }
 

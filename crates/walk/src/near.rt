@@ -6,6 +6,8 @@ ghost use Rattle.flow.specs.Cards.{card_of};
 ghost use Rattle.flow.specs.Raise.{Engine};
 ghost use Rattle.walk.specs.Work.{Ground, NearRow};
 
+use flow::board::Board;
+
 // From any fair flow, in lent work.
 fn near_in(
     first: &[u16],
@@ -25,7 +27,7 @@ fn near_in(
     requires { Engine first.now mods.now weight.now nets.now at.now pins.now mark.now queue.old how.old seen.old sums.old × Fair (card_of first.now mods.now weight.now mark.now) flow.old × (length flow.old ≡ length mods.now) × (bytes_for (length mark.now) ≤ length x.old) }
     ensures { NearRow (card_of first.now mods.now weight.now mark.now) x.old x.new }
 {
-    flow::engine::raise(
+    let board = Board {
         first,
         mods,
         weight,
@@ -33,6 +35,9 @@ fn near_in(
         at,
         pins,
         mark,
+    };
+    flow::engine::raise(
+        &board,
         &mut *queue,
         &mut *how,
         &mut *seen,

@@ -7,8 +7,8 @@ use Rattle.flow.proofs.search.search.Given as goal
 
 abbrev pub invariant-loop-head : goal.invariant-loop-head
 invariant-loop-head l =
-    Bfs l.back l.first l.mods l.weight l.flow l.sums l.nets l.mark (st l.queue l.how l.seen) l.head l.tail
+    Bfs l.back l.board.first.now l.board.mods.now l.board.weight.now l.flow l.sums l.board.nets.now l.board.mark.now (st l.queue l.how l.seen) l.head l.tail
 
 abbrev pub decreases-loop-head : goal.decreases-loop-head
 decreases-loop-head l =
-    length l.mark - l.head
+    length l.board.mark.now - l.head
