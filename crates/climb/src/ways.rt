@@ -4,18 +4,19 @@ ghost use Rattle.flow.specs.Search.{In, rank, left, kind, entered};
 ghost use Rattle.flow.specs.Cards.{card_of};
 ghost use Rattle.flow.specs.Push.{Level};
 ghost use Rattle.flow.specs.Raise.{Steady};
-ghost use Rattle.reach.specs.Work.{words, numbers};
 ghost use Rattle.climb.specs.Climb.{Lay, Named, Thread, Onward, Instead};
+
+use reach::{Guide, Rows};
 
 // Puts the step that x tells to the module that it leads to. The room of a net is marked with the module that it leads to.
 fn put_step(mods: &[u16], nets: &[u16], x: u64, how: &mut [u64], seen: &mut [u16]) -> usize
     requires { (left x < length nets.now) × (entered x < length mods.now) × Named mods.now (length how.old) × Named nets.now (length seen.old) × (length how.old < 65535) }
     ensures { (result ≡ get_or mods.now (entered x) 0) × (how.new ≡ set how.old result x) × (kind x ≡ 0 → seen.new ≡ set seen.old (get_or nets.now (left x) 0) (result + 1)) × (kind x ≢ 0 → seen.new ≡ seen.old) }
 {
-    let v = flow::num::wide(mods[flow::push::entered_pin(x)]);
+    let v = usize::from(mods[flow::push::entered_pin(x)]);
     if flow::push::step_kind(x) == 0 {
-        let n = flow::num::wide(nets[flow::push::left_pin(x)]);
-        seen[n] = flow::num::narrow(v + 1);
+        let n = usize::from(nets[flow::push::left_pin(x)]);
+        seen[n] = (v + 1) as u16;
     }
     how[v] = x;
     v
@@ -72,11 +73,11 @@ pub fn leave(
     let x = how[u];
     let a = flow::push::left_pin(x);
     if flow::push::step_kind(x) == 0 {
-        let n = flow::num::wide(nets[a]);
+        let n = usize::from(nets[a]);
         seen[n] = 0;
     }
     how[u] = 0;
-    flow::num::wide(mods[a])
+    usize::from(mods[a])
 }
 
 // Back from z to the module before `stop`, or to the meter if `stop` is not on the way.
@@ -113,16 +114,16 @@ fn mend(
     at: &[u16],
     pins: &[u16],
     mark: &[u8],
-    guide: &[u16],
+    guide: &Guide,
     sums: &[u32],
     flow: &[i32],
     z: usize,
     v: usize,
     how: &mut [u64],
     seen: &mut [u16],
-    rows: &mut [u64],
+    rows: &mut Rows,
 ) -> bool
-    requires { Lay first.now mods.now weight.now nets.now at.now pins.now mark.now × Level mods.now weight.now sums.now flow.now × Thread mods.now nets.now mark.now how.old seen.old (length weight.now) z × (length seen.old ≡ length weight.now) × (length guide.now ≡ numbers) × (length rows.old ≡ words) }
+    requires { Lay first.now mods.now weight.now nets.now at.now pins.now mark.now × Level mods.now weight.now sums.now flow.now × Thread mods.now nets.now mark.now how.old seen.old (length weight.now) z × (length seen.old ≡ length weight.now) }
     ensures { Thread mods.now nets.now mark.now how.new seen.new (length weight.now) z }
 {
     if v >= how.len() {
@@ -134,13 +135,13 @@ fn mend(
     if mark[v] == 1 {
         return false;
     }
-    let x = crate::onward::instead(
+    let step = crate::onward::instead(
         first, mods, weight, nets, at, pins, mark, sums, flow, &*seen, guide, v, &mut *how,
     );
-    if x == 0 {
+    let Some(x) = step else {
         return false;
-    }
-    reach::touch(nets, flow::push::left_pin(x), &mut *rows);
+    };
+    rows.touch(nets, flow::push::left_pin(x));
     swap(
         mods,
         nets,
@@ -164,15 +165,15 @@ fn carry(
     at: &[u16],
     pins: &[u16],
     mark: &[u8],
-    guide: &[u16],
+    guide: &Guide,
     z: usize,
     how: &mut [u64],
     seen: &mut [u16],
-    rows: &mut [u64],
+    rows: &mut Rows,
     sums: &mut [u32],
     flow: &mut [i32],
 ) -> usize
-    requires { Lay first.now mods.now weight.now nets.now at.now pins.now mark.now × Steady (card_of first.now mods.now weight.now mark.now) mods.now sums.old flow.old × Thread mods.now nets.now mark.now how.old seen.old (length weight.now) z × (get_or mark.now z 0 ≡ 2) × (length seen.old ≡ length weight.now) × (length guide.now ≡ numbers) × (length rows.old ≡ words) }
+    requires { Lay first.now mods.now weight.now nets.now at.now pins.now mark.now × Steady (card_of first.now mods.now weight.now mark.now) mods.now sums.old flow.old × Thread mods.now nets.now mark.now how.old seen.old (length weight.now) z × (get_or mark.now z 0 ≡ 2) × (length seen.old ≡ length weight.now) }
     ensures { Steady (card_of first.now mods.now weight.now mark.now) mods.now sums.new flow.new × Thread mods.now nets.now mark.now how.new seen.new (length weight.now) z }
 {
     let n = flow::push::push_from(mods, weight, nets, mark, &*how, z, &mut *sums, &mut *flow);
@@ -186,14 +187,6 @@ fn carry(
     if mended { mark.len() } else { n.at }
 }
 
-// How many tries are left after one, which was the last or not.
-fn fewer(tries: usize, last: bool) -> usize
-    requires { 0 < tries }
-    ensures { result < tries }
-{
-    if last { 0 } else { tries - 1 }
-}
-
 // At a maker z: pushes what the way can carry, again while it can be mended, and goes back to before the step that carries no more.
 pub fn deliver(
     first: &[u16],
@@ -203,25 +196,26 @@ pub fn deliver(
     at: &[u16],
     pins: &[u16],
     mark: &[u8],
-    guide: &[u16],
+    guide: &Guide,
     z: usize,
     how: &mut [u64],
     seen: &mut [u16],
-    rows: &mut [u64],
+    rows: &mut Rows,
     sums: &mut [u32],
     flow: &mut [i32],
 ) -> usize
-    requires { Lay first.now mods.now weight.now nets.now at.now pins.now mark.now × Steady (card_of first.now mods.now weight.now mark.now) mods.now sums.old flow.old × Thread mods.now nets.now mark.now how.old seen.old (length weight.now) z × (get_or mark.now z 0 ≡ 2) × (length seen.old ≡ length weight.now) × (length guide.now ≡ numbers) × (length rows.old ≡ words) }
+    requires { Lay first.now mods.now weight.now nets.now at.now pins.now mark.now × Steady (card_of first.now mods.now weight.now mark.now) mods.now sums.old flow.old × Thread mods.now nets.now mark.now how.old seen.old (length weight.now) z × (get_or mark.now z 0 ≡ 2) × (length seen.old ≡ length weight.now) }
     ensures { Steady (card_of first.now mods.now weight.now mark.now) mods.now sums.new flow.new × Thread mods.now nets.now mark.now how.new seen.new (length weight.now) result }
 {
     let mut stop = mark.len();
-    let mut tries: usize = 256;
-    while tries > 0 {
+    for _ in 0..256u16 {
         stop = carry(
             first, mods, weight, nets, at, pins, mark, guide, z, &mut *how, &mut *seen, &mut *rows,
             &mut *sums, &mut *flow,
         );
-        tries = fewer(tries, stop < mark.len());
+        if stop < mark.len() {
+            break;
+        }
     }
     back(
         mods,
