@@ -36,7 +36,7 @@ mend-mended-requires c =
     let args = c.args in
     let heavy = c.type_inv.weight in
     let push-from = c.push_from-n in
-    (pre.0, thread_level args.first.now args.mods.now args.weight.now args.nets.now args.at.now args.pins.now args.mark.now pre.0 (λ e l. omega (arith, heavy e)) args.how.now args.seen.now args.z pre.2 _ _ (thread_carried args.first.now args.mods.now args.weight.now args.nets.now args.at.now args.pins.now args.mark.now pre.0 (λ e l. omega (arith, heavy e)) args.how.now args.seen.now args.z pre.2 args.sums.now args.flow.now pre.1 pre.3 push-from.ensures.1), pre.2, pre.4, pre.5, pre.6)
+    (pre.0, thread_level args.first.now args.mods.now args.weight.now args.nets.now args.at.now args.pins.now args.mark.now pre.0 (λ e l. omega (arith, heavy e)) args.how.now args.seen.now args.z pre.2 _ _ (thread_carried args.first.now args.mods.now args.weight.now args.nets.now args.at.now args.pins.now args.mark.now pre.0 (λ e l. omega (arith, heavy e)) args.how.now args.seen.now args.z pre.2 args.sums.now args.flow.now pre.1 pre.3 push-from.ensures.1), pre.2, pre.4)
 
 pub returns-then-mended : goal.returns-then-mended
 returns-then-mended c =

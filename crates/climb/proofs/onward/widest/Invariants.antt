@@ -1,0 +1,8 @@
+-- The best step so far is one onward.
+use Rattle.std.proofs.Common.{IfSome}
+use Rattle.climb.specs.Climb.{Onward}
+use Rattle.climb.proofs.onward.widest.Given as goal
+
+abbrev pub invariant-loop-i : goal.invariant-loop-i
+invariant-loop-i l =
+    IfSome l.best (λ x. Onward l.mods l.nets l.mark l.how l.seen l.u l.rank x)
