@@ -42,17 +42,17 @@ impl<'a> Card<'a> {
 
 // A flow on a card: what goes into the net at each pin, and what each net sends.
 #[derive(Clone, Copy)]
-pub struct Flow<'a> {
+pub struct Flow<'a, 'b> {
     pub card: Card<'a>,
-    pub sums: &'a [u32],
-    pub flow: &'a [i32],
+    pub sums: &'b [u32],
+    pub flow: &'b [i32],
     ghost nets: { length sums.now ≡ length card.weight.now },
     ghost pins: { length flow.now ≡ length card.mods.now },
 }
 
-impl<'a> Flow<'a> {
+impl<'b> Flow<'_, 'b> {
     // What goes into net n at its pins.
-    pub fn at(&self, n: usize) -> &'a [i32]
+    pub fn at(&self, n: usize) -> &'b [i32]
         requires { n < length self.now.card.weight.now }
     {
         let pins = self.card.pins(n);

@@ -11,7 +11,7 @@ no_way : (w : List ℕ) (n : ℕ) → w ≡ replicate n 0 → Empty w
 no_way w n e m i =
     let on : m < length w = in_length w m i in
     let low : m < n = omega (arith, ap length e, length-replicate {A = ℕ} n 0) in
-    omega (arith, i, ap (λ (v : List ℕ). get_or v m 0) e, get_or-replicate n m 0 0 low)
+    omega (arith, i, ap (λ (v : List ℕ). get_or v m 0) e, get_or-replicate {A = ℕ} n m 0 0 low)
 
 pub net_sums-requires : goal.net_sums-requires
 net_sums-requires c =

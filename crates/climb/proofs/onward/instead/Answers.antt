@@ -1,9 +1,6 @@
 -- What is taken off the way is put back.
-use Rattle.std.proofs.Common.{◌≡◌, ℕ, List, get_or, set, sym, ap, subst, ◌∙◌}
+use Rattle.std.proofs.Common.{◌≡◌, ℕ, List, get_or, set, ap, ◌∙◌}
 use Rattle.std.proofs.lemmas.List.{set-set, set-get_or}
-use Rattle.std.proofs.lemmas.Option.{IfSome_then}
-use Rattle.flow.specs.Search.{left, rank}
-use Rattle.climb.specs.Climb.{Onward, Instead}
 use Rattle.climb.proofs.onward.instead.Goals as goal
 
 put_back : (w : List ℕ) (v : ℕ) → set (set w v 0) v (get_or w v 0) ≡ w

@@ -1,5 +1,5 @@
 -- The pins looked at are those of the net of `a`.
-use Rattle.std.proofs.Common.{ℕ, ◌+◌, get_or, nat_lt, ap, ◌∙◌}
+use Rattle.std.proofs.Common.{ℕ, get_or, nat_lt, ap, ◌∙◌}
 use Rattle.std.proofs.lemmas.Option.{IfSome_then}
 use Rattle.climb.proofs.Entries.{onward_of}
 use Rattle.climb.proofs.onward.leave_by.Goals as goal
