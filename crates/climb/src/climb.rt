@@ -70,7 +70,7 @@ fn try_meter(
         mark,
         weight.len(),
         u,
-        mark.len(),
+        None,
         &mut *how,
         &mut *seen,
     );

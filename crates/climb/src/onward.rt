@@ -16,7 +16,7 @@ struct Look {
     hi: usize,
     lower: u16,
     takes: bool,
-    open: bool,
+    free: bool,
     rank: usize,
     a: u16,
 }
@@ -55,17 +55,14 @@ fn entry(
     look: Look,
 ) -> Option<u64>
     requires { (look.hi ≤ length mods.now) × (length mods.now < 16384) × (length flow.now ≡ length mods.now) × Named mods.now (length mark.now) × (length how.now ≡ length mark.now) × (length mark.now ≤ 256) × (look.rank < 65536) × (look.a < 16384) }
-    ensures { IfSome result (λ x. Entry mods.now mark.now how.now look.lo look.hi look.open look.rank look.a x) }
+    ensures { IfSome result (λ x. Entry mods.now mark.now how.now look.lo look.hi look.free look.rank look.a x) }
 {
-    let lower = look.lower;
-    let takes = look.takes;
-    let open = look.open;
     for i in look.lo..look.hi {
         let m = usize::from(mods[i]);
-        if guide.far[m] == lower {
+        if guide.far[m] == look.lower {
             let f = flow[i];
-            if (takes | open | (f > 0)) & (how[m] == 0) & (mark[m] != 1) {
-                let kind = kind_to(takes, f > 0);
+            if (look.takes | look.free | (f > 0)) & (how[m] == 0) & (mark[m] != 1) {
+                let kind = kind_to(look.takes, f > 0);
                 let from = flow::search::pack_from(look.a, kind);
                 return Some(flow::search::pack(look.rank, from, i));
             }
@@ -107,7 +104,7 @@ fn leave_by(
         hi: usize::from(first[n + 1]),
         lower: d - 1,
         takes: flow[p] < 0,
-        open: room & (seen[n] == 0),
+        free: room & (seen[n] == 0),
         rank: rank,
         a: a,
     };

@@ -1,5 +1,5 @@
 // The way from a meter to the module reached last: one step more, one step back, and what a maker at its end takes.
-ghost use Rattle.std.specs.Prelude.{◌≡◌, ◌≢◌, suc, ◌+◌, ◌≤◌, ◌<◌, length, get_or, set};
+ghost use Rattle.std.specs.Prelude.{◌≡◌, ◌≢◌, suc, ◌+◌, ◌≤◌, ◌<◌, length, get_or, set, IfNone};
 ghost use Rattle.flow.specs.Search.{In, rank, left, kind, entered};
 ghost use Rattle.flow.specs.Cards.{card_of};
 ghost use Rattle.flow.specs.Push.{Level};
@@ -7,6 +7,9 @@ ghost use Rattle.flow.specs.Raise.{Steady};
 ghost use Rattle.climb.specs.Climb.{Lay, Named, Thread, Onward, Instead};
 
 use reach::{Guide, Rows};
+
+// How many pushes an arrival at a maker is given.
+const PUSHES: usize = 256;
 
 // Puts the step that x tells to the module that it leads to. The room of a net is marked with the module that it leads to.
 fn put_step(mods: &[u16], nets: &[u16], x: u64, how: &mut [u64], seen: &mut [u16]) -> usize
@@ -80,23 +83,23 @@ pub fn leave(
     usize::from(mods[a])
 }
 
-// Back from z to the module before `stop`, or to the meter if `stop` is not on the way.
+// Back from z to the module before `stop`, or to the meter if there is no stop or it is not on the way.
 pub fn back(
     mods: &[u16],
     nets: &[u16],
     mark: &[u8],
     count: usize,
     z: usize,
-    stop: usize,
+    stop: Option<usize>,
     how: &mut [u64],
     seen: &mut [u16],
 ) -> usize
     requires { Thread mods.now nets.now mark.now how.old seen.old count z × (length seen.old ≡ count) }
-    ensures { Thread mods.now nets.now mark.now how.new seen.new count result × (stop ≡ length mark.now → get_or mark.now result 0 ≡ 1) }
+    ensures { Thread mods.now nets.now mark.now how.new seen.new count result × IfNone stop (get_or mark.now result 0 ≡ 1) }
 {
     let mut u = z;
     while mark[u] != 1 {
-        let here = u == stop;
+        let here = stop == Some(u);
         u = leave(mods, nets, mark, count, u, &mut *how, &mut *seen);
         if here {
             break;
@@ -156,7 +159,7 @@ fn mend(
     true
 }
 
-// At a maker z: pushes what the way can carry. A long way that carried something is mended where it is narrow; the result is where it could not be, or past every module.
+// At a maker z: pushes what the way can carry. A long way that carried something is mended where it is narrow; the result is where it could not be.
 fn carry(
     first: &[u16],
     mods: &[u16],
@@ -172,19 +175,19 @@ fn carry(
     rows: &mut Rows,
     sums: &mut [u32],
     flow: &mut [i32],
-) -> usize
+) -> Option<usize>
     requires { Lay first.now mods.now weight.now nets.now at.now pins.now mark.now × Steady (card_of first.now mods.now weight.now mark.now) mods.now sums.old flow.old × Thread mods.now nets.now mark.now how.old seen.old (length weight.now) z × (get_or mark.now z 0 ≡ 2) × (length seen.old ≡ length weight.now) }
     ensures { Steady (card_of first.now mods.now weight.now mark.now) mods.now sums.new flow.new × Thread mods.now nets.now mark.now how.new seen.new (length weight.now) z }
 {
     let n = flow::push::push_from(mods, weight, nets, mark, &*how, z, &mut *sums, &mut *flow);
     if (n.room == 0) | (crate::onward::rank_of(how[z]) <= crate::onward::LONG) {
-        return n.at;
+        return Some(n.at);
     }
     let mended = mend(
         first, mods, weight, nets, at, pins, mark, guide, &*sums, &*flow, z, n.at, &mut *how,
         &mut *seen, &mut *rows,
     );
-    if mended { mark.len() } else { n.at }
+    if mended { None } else { Some(n.at) }
 }
 
 // At a maker z: pushes what the way can carry, again while it can be mended, and goes back to before the step that carries no more.
@@ -207,13 +210,13 @@ pub fn deliver(
     requires { Lay first.now mods.now weight.now nets.now at.now pins.now mark.now × Steady (card_of first.now mods.now weight.now mark.now) mods.now sums.old flow.old × Thread mods.now nets.now mark.now how.old seen.old (length weight.now) z × (get_or mark.now z 0 ≡ 2) × (length seen.old ≡ length weight.now) }
     ensures { Steady (card_of first.now mods.now weight.now mark.now) mods.now sums.new flow.new × Thread mods.now nets.now mark.now how.new seen.new (length weight.now) result }
 {
-    let mut stop = mark.len();
-    for _ in 0..256u16 {
+    let mut stop: Option<usize> = None;
+    for _ in 0..PUSHES {
         stop = carry(
             first, mods, weight, nets, at, pins, mark, guide, z, &mut *how, &mut *seen, &mut *rows,
             &mut *sums, &mut *flow,
         );
-        if stop < mark.len() {
+        if stop.is_some() {
             break;
         }
     }

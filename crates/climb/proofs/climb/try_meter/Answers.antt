@@ -1,5 +1,5 @@
 -- The flow stays steady and the way a thread, of which `u` is the end.
-use Rattle.std.proofs.Common.{length, refl, ◌∙◌, arith}
+use Rattle.std.proofs.Common.{length, ◌∙◌, arith}
 use Rattle.climb.proofs.Routes.{thread_level}
 use Rattle.climb.proofs.Threads.{thread_end, tip_below}
 use Rattle.climb.specs.Climb.{Sized}
@@ -29,4 +29,4 @@ pub returns : goal.returns
 returns c =
     let args = c.args in
     let back = c.back-end in
-    (c.loop.invariant.0, thread_end args.mods.now args.nets.now args.mark.now back.new.how back.new.seen (length args.weight.now) back.result back.ensures.0 (back.ensures.1 refl))
+    (c.loop.invariant.0, thread_end args.mods.now args.nets.now args.mark.now back.new.how back.new.seen (length args.weight.now) back.result back.ensures.0 back.ensures.1)
