@@ -13,9 +13,9 @@ pub struct Guide {
 }
 
 impl Guide {
-    // Nothing was reached.
+    // Before the first look. All zeros, so that it is made where it stands and not copied.
     pub const NEW: Self = Guide {
-        far: [FAR; crate::MODULES],
+        far: [0; crate::MODULES],
         whole: [0; crate::NETS],
         part: [0; crate::NETS],
         own: [0; crate::MODULES],
