@@ -28,8 +28,7 @@ impl Search {
 
     // The new front, at the distance d: who of these was not reached before.
     fn settle(&mut self, found: &Modules, d: u16, guide: &mut Guide) {
-        self.front = found.without(&self.reached);
-        self.reached.join(&self.front);
+        self.front = self.reached.join_new(found);
         for m in self.front.members() {
             guide.far[m] = d;
         }
@@ -44,10 +43,8 @@ impl Search {
             sent.join(&rows.sends[m]);
         }
         sent.join(&met.without(&rows.full));
-        let whole = sent.without(&self.whole);
-        let part = met.without(&sent).without(&self.whole).without(&self.part);
-        self.whole.join(&whole);
-        self.part.join(&part);
+        let whole = self.whole.join_new(&sent);
+        let part = self.part.join_new(&met.without(&self.whole));
         let mut found = NO_MODULES;
         for n in whole.members() {
             guide.whole[n] = d;
@@ -64,7 +61,7 @@ impl Search {
     fn level(&mut self, flow: Flow, rows: &Rows, d: u16, guide: &mut Guide) -> bool {
         let found = self.spread(flow, rows, d, &mut *guide);
         self.settle(&found, d, &mut *guide);
-        !self.front.is_empty() && !rows.meters.without(&self.reached).is_empty()
+        !self.front.is_empty() && !rows.meters.is_inside(&self.reached)
     }
 }
 

@@ -83,7 +83,8 @@ impl Rows {
 
     // Looks anew at every net that was touched; none is after it.
     pub(crate) fn redo(&mut self, flow: Flow) {
-        for n in self.touched.members() {
+        let touched = self.touched;
+        for n in touched.members() {
             if n < flow.card.weight.len() {
                 self.redo_net(flow, n);
             }

@@ -66,6 +66,13 @@ impl<const N: usize> Set<N> {
         left
     }
 
+    // Adds the members of the other: those that are new.
+    pub fn join_new(&mut self, other: &Self) -> Self {
+        let new = other.without(self);
+        self.join(&new);
+        new
+    }
+
     pub fn is_empty(&self) -> bool {
         self.words.iter().all(|word| *word == 0)
     }
@@ -78,13 +85,21 @@ impl<const N: usize> Set<N> {
             .any(|(x, y)| *x & *y != 0)
     }
 
+    // Are all members in the other?
+    pub fn is_inside(&self, other: &Self) -> bool {
+        self.words
+            .iter()
+            .zip(other.words.iter())
+            .all(|(x, y)| *x & !*y == 0)
+    }
+
     // The members, from the lowest.
-    pub fn members(&self) -> Members<N>
+    pub fn members(&self) -> Members<'_, N>
         requires some { 0 < N }
         requires few { 64 * N < 2 ^ 64 }
     {
         Members {
-            words: self.words,
+            words: &self.words,
             at: 0,
             rest: self.words[0],
         }
@@ -93,15 +108,15 @@ impl<const N: usize> Set<N> {
 
 // The members of a set that are still to come: those in `rest`, of the word at `at`, and those of the words after it.
 #[derive(Drop)]
-pub struct Members<const N: usize> {
-    words: [u64; N],
+pub struct Members<'a, const N: usize> {
+    words: &'a [u64; N],
     at: usize,
     rest: u64,
     ghost within: { at < N },
     ghost few: { 64 * N < 2 ^ 64 },
 }
 
-impl<const N: usize> Iterator for Members<N> {
+impl<const N: usize> Iterator for Members<'_, N> {
     type Item = usize;
 
     ghost next_gives = { λ _ result _. IfSome result (λ i. i < 64 * N) };
