@@ -1,44 +1,18 @@
 -- A step onward as one number: what the tests at a pin tell of it, and what the number then says. Assumes nothing.
-use mathlib.Core.Path.{◌≡◌, refl, sym, ap, ◌∙◌, subst}
+use mathlib.Core.Path.{◌≡◌, sym, ap, ◌∙◌, subst}
 use mathlib.Core.Logic.{◌≢◌}
-use mathlib.Core.Bool.{Bool, true, false, not, ◌&&◌, ◌||◌, false≢true, and-eq-true_iff}
+use mathlib.Core.Bool.{Bool, true, ◌&&◌, and-eq-true_iff}
 use mathlib.Core.List.{List}
-use Prim.Native.Nat.{ℕ, ◌+◌, ◌*◌, ◌≤◌, ◌<◌}
+use Prim.Native.Nat.{ℕ, ◌+◌, ◌≤◌, ◌<◌}
 use native.Mathlib.Omega.{arith}
 use lib.ListN.{length, get_or}
 use lib.Dec.{eqb}
-use borrow.Author.Tests.{eqb-true, eqb-false, not-true}
+use borrow.Author.Tests.{eqb-true}
 use Rattle.flow.specs.Search.{Pin}
 use Rattle.flow.specs.Cards.{card_of}
 use Rattle.flow.proofs.VisitLaws.{Read, read}
 use Rattle.flow.proofs.CardLaws.{Made, card_made, grid_of, run_net}
 use Rattle.climb.specs.Climb.{Lay, Entry, Onward}
-
--- ---- what tests tell together
-
--- of three tests of which one passes, the one that is left
-free_true : (takes free sends : Bool) → ((takes || free) || sends) ≡ true → takes ≡ false → sends ≡ false → free ≡ true
-free_true takes true sends e p q = refl
-free_true takes false sends e p q = absurd (false≢true (rw (p, q) at e))
-
--- ---- the step
-
--- pin i passed the tests
-pub entry_of : (ms mk w : List ℕ) (lo hi : ℕ) (takes free sends : Bool) (r a : ℕ) {k f i m x : ℕ} → Pin lo hi i → m ≡ get_or ms i 0 →
-    ((((takes || free) || sends) && eqb (get_or w m 0) 0) && not (eqb (get_or mk m 0) 1)) ≡ true → (k ≤ 2) × (k ≡ 0 → (takes ≡ false) × (sends ≡ false)) →
-    f ≡ (a * 4 + k) * 65536 → x ≡ r * 4294967296 + f + i → Entry ms mk w lo hi free r a x
-entry_of ms mk w lo hi takes free sends r a {k} {f} {i} {m} {x} on em e kd ef ex =
-    let all = (and-eq-true_iff (((takes || free) || sends) && eqb (get_or w m 0) 0) (not (eqb (get_or mk m 0) 1))).0 e in
-    let some = (and-eq-true_iff ((takes || free) || sends) (eqb (get_or w m 0) 0)).0 all.0 in record {
-      pin = i;
-      by = k;
-      number = ex ∙ ap (λ (j : ℕ). r * 4294967296 + j + i) ef;
-      on = on;
-      small = kd.0;
-      room = λ z. free_true takes free sends some.0 (kd.1 z).0 (kd.1 z).1;
-      fresh = subst (λ (j : ℕ). get_or w j 0 ≡ 0) em (eqb-true (get_or w m 0) 0 some.1);
-      no_meter = subst (λ (j : ℕ). get_or mk j 0 ≢ 1) em (eqb-false (get_or mk m 0) 1 (not-true _ all.1));
-    }
 
 -- the step leaves by pin a of u, the pins looked at are those of a's net, and the net's room is free only if its mark is 0
 pub onward_of : (fs ms ws nt at pl mk : List ℕ) → Lay fs ms ws nt at pl mk → (w sn : List ℕ) (wide : Bool) (u r a : ℕ) {n lo hi x : ℕ} → a < length ms → get_or ms a 0 ≡ u → r ≤ length mk →

@@ -2,22 +2,12 @@ ghost use Rattle.std.specs.Prelude.{◌≡◌, ◌≤◌, ◌<◌, length, get_o
 ghost use Rattle.line.specs.Flow.{Fair};
 ghost use Rattle.flow.specs.Cards.{card_of};
 ghost use Rattle.flow.specs.Raise.{Steady};
-ghost use Rattle.reach.specs.Work.{words, numbers};
 ghost use Rattle.climb.specs.Climb.{Lay, Empty, Sized};
+
+use reach::{Card, FAR, Flow, Guide, Rows};
 
 // How many steps a meter is given, forth and back, before the distances are looked at anew.
 const TRIES: usize = 65536;
-
-// No module is on the way.
-fn forget(how: &mut [u64])
-    ensures { Empty how.new }
-{
-    let mut m: usize = 0;
-    while m < how.len() {
-        how[m] = 0;
-        m += 1;
-    }
-}
 
 // Ways from the meter s, each as far down as it goes; a module with no step onward is tried no more.
 fn try_meter(
@@ -31,20 +21,18 @@ fn try_meter(
     s: usize,
     how: &mut [u64],
     seen: &mut [u16],
-    guide: &mut [u16],
-    rows: &mut [u64],
+    guide: &mut Guide,
+    rows: &mut Rows,
     sums: &mut [u32],
     flow: &mut [i32],
 )
-    requires { Lay first.now mods.now weight.now nets.now at.now pins.now mark.now × Steady (card_of first.now mods.now weight.now mark.now) mods.now sums.old flow.old × Sized mark.now weight.now how.old seen.old × (length guide.old ≡ numbers) × (length rows.old ≡ words) × Empty how.old × (s < length mark.now) × (get_or mark.now s 0 ≡ 1) }
+    requires { Lay first.now mods.now weight.now nets.now at.now pins.now mark.now × Steady (card_of first.now mods.now weight.now mark.now) mods.now sums.old flow.old × Sized mark.now weight.now how.old seen.old × Empty how.old × (s < length mark.now) × (get_or mark.now s 0 ≡ 1) }
     ensures { Steady (card_of first.now mods.now weight.now mark.now) mods.now sums.new flow.new × Empty how.new }
 {
     how[s] = flow::search::pack(1, 0, 0);
     let mut u = s;
-    let mut tries = TRIES;
-    while tries > 0 {
-        tries -= 1;
-        let x = crate::onward::onward(
+    for _ in 0..TRIES {
+        let step = crate::onward::onward(
             first,
             mods,
             weight,
@@ -59,14 +47,8 @@ fn try_meter(
             u,
             &mut *guide,
         );
-        if x == 0 {
-            guide[u] = reach::FAR;
-            if mark[u] == 1 {
-                break;
-            }
-            u = crate::ways::leave(mods, nets, mark, weight.len(), u, &mut *how, &mut *seen);
-        } else {
-            reach::touch(nets, flow::push::left_pin(x), &mut *rows);
+        if let Some(x) = step {
+            rows.touch(nets, flow::push::left_pin(x));
             u = crate::ways::enter(mods, nets, mark, weight.len(), u, x, &mut *how, &mut *seen);
             if mark[u] == 2 {
                 u = crate::ways::deliver(
@@ -74,6 +56,12 @@ fn try_meter(
                     &mut *rows, &mut *sums, &mut *flow,
                 );
             }
+        } else {
+            guide.far[u] = FAR;
+            if mark[u] == 1 {
+                break;
+            }
+            u = crate::ways::leave(mods, nets, mark, weight.len(), u, &mut *how, &mut *seen);
         }
     }
     let end = crate::ways::back(
@@ -82,7 +70,7 @@ fn try_meter(
         mark,
         weight.len(),
         u,
-        mark.len(),
+        None,
         &mut *how,
         &mut *seen,
     );
@@ -100,17 +88,16 @@ fn try_all(
     mark: &[u8],
     how: &mut [u64],
     seen: &mut [u16],
-    guide: &mut [u16],
-    rows: &mut [u64],
+    guide: &mut Guide,
+    rows: &mut Rows,
     sums: &mut [u32],
     flow: &mut [i32],
 )
-    requires { Lay first.now mods.now weight.now nets.now at.now pins.now mark.now × Steady (card_of first.now mods.now weight.now mark.now) mods.now sums.old flow.old × Sized mark.now weight.now how.old seen.old × (length guide.old ≡ numbers) × (length rows.old ≡ words) × Empty how.old }
+    requires { Lay first.now mods.now weight.now nets.now at.now pins.now mark.now × Steady (card_of first.now mods.now weight.now mark.now) mods.now sums.old flow.old × Sized mark.now weight.now how.old seen.old × Empty how.old }
     ensures { Steady (card_of first.now mods.now weight.now mark.now) mods.now sums.new flow.new × Empty how.new }
 {
-    let mut s: usize = 0;
-    while s < mark.len() {
-        if (mark[s] == 1) & (guide[s] != reach::FAR) {
+    for s in 0..mark.len() {
+        if (mark[s] == 1) & (guide.far[s] != FAR) {
             try_meter(
                 first,
                 mods,
@@ -128,36 +115,43 @@ fn try_all(
                 &mut *flow,
             );
         }
-        s += 1;
     }
 }
 
 // Rounds of a look and of ways down to the makers, until no meter can reach a maker; a round a module at most.
-fn climb_on(
-    first: &[u16],
-    mods: &[u16],
-    weight: &[u16],
+fn climb_on<'a>(
+    first: &'a [u16],
+    mods: &'a [u16],
+    weight: &'a [u16],
     nets: &[u16],
     at: &[u16],
     pins: &[u16],
     mark: &[u8],
     how: &mut [u64],
     seen: &mut [u16],
-    guide: &mut [u16],
-    rows: &mut [u64],
+    guide: &mut Guide,
+    rows: &mut Rows,
     sums: &mut [u32],
     flow: &mut [i32],
 )
-    requires { Lay first.now mods.now weight.now nets.now at.now pins.now mark.now × Steady (card_of first.now mods.now weight.now mark.now) mods.now sums.old flow.old × Sized mark.now weight.now how.old seen.old × (length guide.old ≡ numbers) × (length rows.old ≡ words) × Empty how.old }
+    requires { Lay first.now mods.now weight.now nets.now at.now pins.now mark.now × Steady (card_of first.now mods.now weight.now mark.now) mods.now sums.old flow.old × Sized mark.now weight.now how.old seen.old × Empty how.old }
     ensures { Fair (card_of first.now mods.now weight.now mark.now) flow.new }
 {
-    let mut k: usize = 0;
-    while k < mark.len() {
-        let met = reach::look(first, mods, weight, &*sums, &*flow, &mut *rows, &mut *guide);
-        if !met {
+    let card = Card {
+        first,
+        mods,
+        weight,
+    };
+    for _ in 0..mark.len() {
+        let now = Flow {
+            card,
+            sums: &*sums,
+            flow: &*flow,
+        };
+        if !reach::look(now, &mut *rows, &mut *guide) {
             break;
         }
-        flow::num::clear(&mut *seen);
+        seen.fill(0);
         try_all(
             first,
             mods,
@@ -173,15 +167,14 @@ fn climb_on(
             &mut *sums,
             &mut *flow,
         );
-        k += 1;
     }
 }
 
 // From any fair flow to a fair one, in lent work; the guide and its rows are its own.
-pub fn climb(
-    first: &[u16],
-    mods: &[u16],
-    weight: &[u16],
+pub fn climb<'a>(
+    first: &'a [u16],
+    mods: &'a [u16],
+    weight: &'a [u16],
     nets: &[u16],
     at: &[u16],
     pins: &[u16],
@@ -194,11 +187,16 @@ pub fn climb(
     requires { Lay first.now mods.now weight.now nets.now at.now pins.now mark.now × Sized mark.now weight.now how.old seen.old × (length sums.old ≡ length weight.now) × Fair (card_of first.now mods.now weight.now mark.now) flow.old × (length flow.old ≡ length mods.now) }
     ensures { Fair (card_of first.now mods.now weight.now mark.now) flow.new }
 {
-    let mut guide: [u16; reach::NUMBERS] = [0; reach::NUMBERS];
-    let mut rows: [u64; reach::WORDS] = [0; reach::WORDS];
+    let card = Card {
+        first,
+        mods,
+        weight,
+    };
+    let mut guide = Guide::NEW;
+    let mut rows = Rows::EMPTY;
     flow::engine::net_sums(first, &*flow, &mut *sums);
-    forget(&mut *how);
-    reach::begin(first, mods, weight, mark, &*sums, &mut rows);
+    how.fill(0);
+    rows.begin(card, mark, &*sums);
     climb_on(
         first, mods, weight, nets, at, pins, mark, how, seen, &mut guide, &mut rows, sums, flow,
     );

@@ -1,24 +1,27 @@
 // The way from a meter to the module reached last: one step more, one step back, and what a maker at its end takes.
-ghost use Rattle.std.specs.Prelude.{◌≡◌, ◌≢◌, suc, ◌+◌, ◌≤◌, ◌<◌, length, get_or, set};
+ghost use Rattle.std.specs.Prelude.{◌≡◌, ◌≢◌, suc, ◌+◌, ◌≤◌, ◌<◌, length, get_or, set, IfNone};
 ghost use Rattle.flow.specs.Search.{In, rank, left, kind, entered};
 ghost use Rattle.flow.specs.Cards.{card_of};
 ghost use Rattle.flow.specs.Push.{Level};
 ghost use Rattle.flow.specs.Raise.{Steady};
-ghost use Rattle.reach.specs.Work.{words, numbers};
 ghost use Rattle.climb.specs.Climb.{Lay, Named, Thread, Onward, Instead};
 
 use flow::kind::{Kind, step_kind};
 use flow::push::{Ways, push_from};
+use reach::{Guide, Rows};
+
+// How many pushes an arrival at a maker is given.
+const PUSHES: usize = 256;
 
 // Puts the step that x tells to the module that it leads to. The room of a net is marked with the module that it leads to.
 fn put_step(mods: &[u16], nets: &[u16], x: u64, how: &mut [u64], seen: &mut [u16]) -> usize
     requires { (left x < length nets.now) × (entered x < length mods.now) × Named mods.now (length how.old) × Named nets.now (length seen.old) × (length how.old < 65535) }
     ensures { (result ≡ get_or mods.now (entered x) 0) × (how.new ≡ set how.old result x) × (kind x ≡ 0 → seen.new ≡ set seen.old (get_or nets.now (left x) 0) (result + 1)) × (kind x ≢ 0 → seen.new ≡ seen.old) }
 {
-    let v = flow::num::wide(mods[flow::push::entered_pin(x)]);
+    let v = usize::from(mods[flow::push::entered_pin(x)]);
     if step_kind(x) == Kind::Room {
-        let n = flow::num::wide(nets[flow::push::left_pin(x)]);
-        seen[n] = flow::num::narrow(v + 1);
+        let n = usize::from(nets[flow::push::left_pin(x)]);
+        seen[n] = (v + 1) as u16;
     }
     how[v] = x;
     v
@@ -75,30 +78,30 @@ pub fn leave(
     let x = how[u];
     let a = flow::push::left_pin(x);
     if step_kind(x) == Kind::Room {
-        let n = flow::num::wide(nets[a]);
+        let n = usize::from(nets[a]);
         seen[n] = 0;
     }
     how[u] = 0;
-    flow::num::wide(mods[a])
+    usize::from(mods[a])
 }
 
-// Back from z to the module before `stop`, or to the meter if `stop` is not on the way.
+// Back from z to the module before `stop`, or to the meter if there is no stop or it is not on the way.
 pub fn back(
     mods: &[u16],
     nets: &[u16],
     mark: &[u8],
     count: usize,
     z: usize,
-    stop: usize,
+    stop: Option<usize>,
     how: &mut [u64],
     seen: &mut [u16],
 ) -> usize
     requires { Thread mods.now nets.now mark.now how.old seen.old count z × (length seen.old ≡ count) }
-    ensures { Thread mods.now nets.now mark.now how.new seen.new count result × (stop ≡ length mark.now → get_or mark.now result 0 ≡ 1) }
+    ensures { Thread mods.now nets.now mark.now how.new seen.new count result × IfNone stop (get_or mark.now result 0 ≡ 1) }
 {
     let mut u = z;
     while mark[u] != 1 {
-        let here = u == stop;
+        let here = stop == Some(u);
         u = leave(mods, nets, mark, count, u, &mut *how, &mut *seen);
         if here {
             break;
@@ -116,16 +119,16 @@ fn mend(
     at: &[u16],
     pins: &[u16],
     mark: &[u8],
-    guide: &[u16],
+    guide: &Guide,
     sums: &[u32],
     flow: &[i32],
     z: usize,
     v: usize,
     how: &mut [u64],
     seen: &mut [u16],
-    rows: &mut [u64],
+    rows: &mut Rows,
 ) -> bool
-    requires { Lay first.now mods.now weight.now nets.now at.now pins.now mark.now × Level mods.now weight.now sums.now flow.now × Thread mods.now nets.now mark.now how.old seen.old (length weight.now) z × (length seen.old ≡ length weight.now) × (length guide.now ≡ numbers) × (length rows.old ≡ words) }
+    requires { Lay first.now mods.now weight.now nets.now at.now pins.now mark.now × Level mods.now weight.now sums.now flow.now × Thread mods.now nets.now mark.now how.old seen.old (length weight.now) z × (length seen.old ≡ length weight.now) }
     ensures { Thread mods.now nets.now mark.now how.new seen.new (length weight.now) z }
 {
     if v >= how.len() {
@@ -137,13 +140,13 @@ fn mend(
     if mark[v] == 1 {
         return false;
     }
-    let x = crate::onward::instead(
+    let step = crate::onward::instead(
         first, mods, weight, nets, at, pins, mark, sums, flow, &*seen, guide, v, &mut *how,
     );
-    if x == 0 {
+    let Some(x) = step else {
         return false;
-    }
-    reach::touch(nets, flow::push::left_pin(x), &mut *rows);
+    };
+    rows.touch(nets, flow::push::left_pin(x));
     swap(
         mods,
         nets,
@@ -158,7 +161,7 @@ fn mend(
     true
 }
 
-// At a maker z: pushes what the way can carry. A long way that carried something is mended where it is narrow; the result is where it could not be, or past every module.
+// At a maker z: pushes what the way can carry. A long way that carried something is mended where it is narrow; the result is where it could not be.
 fn carry(
     first: &[u16],
     mods: &[u16],
@@ -167,15 +170,15 @@ fn carry(
     at: &[u16],
     pins: &[u16],
     mark: &[u8],
-    guide: &[u16],
+    guide: &Guide,
     z: usize,
     how: &mut [u64],
     seen: &mut [u16],
-    rows: &mut [u64],
+    rows: &mut Rows,
     sums: &mut [u32],
     flow: &mut [i32],
-) -> usize
-    requires { Lay first.now mods.now weight.now nets.now at.now pins.now mark.now × Steady (card_of first.now mods.now weight.now mark.now) mods.now sums.old flow.old × Thread mods.now nets.now mark.now how.old seen.old (length weight.now) z × (get_or mark.now z 0 ≡ 2) × (length seen.old ≡ length weight.now) × (length guide.now ≡ numbers) × (length rows.old ≡ words) }
+) -> Option<usize>
+    requires { Lay first.now mods.now weight.now nets.now at.now pins.now mark.now × Steady (card_of first.now mods.now weight.now mark.now) mods.now sums.old flow.old × Thread mods.now nets.now mark.now how.old seen.old (length weight.now) z × (get_or mark.now z 0 ≡ 2) × (length seen.old ≡ length weight.now) }
     ensures { Steady (card_of first.now mods.now weight.now mark.now) mods.now sums.new flow.new × Thread mods.now nets.now mark.now how.new seen.new (length weight.now) z }
 {
     let ways = Ways {
@@ -187,21 +190,13 @@ fn carry(
     };
     let n = push_from(&ways, z, &mut *sums, &mut *flow);
     if (n.room == 0) | (crate::onward::rank_of(how[z]) <= crate::onward::LONG) {
-        return n.at;
+        return Some(n.at);
     }
     let mended = mend(
         first, mods, weight, nets, at, pins, mark, guide, &*sums, &*flow, z, n.at, &mut *how,
         &mut *seen, &mut *rows,
     );
-    if mended { mark.len() } else { n.at }
-}
-
-// How many tries are left after one, which was the last or not.
-fn fewer(tries: usize, last: bool) -> usize
-    requires { 0 < tries }
-    ensures { result < tries }
-{
-    if last { 0 } else { tries - 1 }
+    if mended { None } else { Some(n.at) }
 }
 
 // At a maker z: pushes what the way can carry, again while it can be mended, and goes back to before the step that carries no more.
@@ -213,25 +208,26 @@ pub fn deliver(
     at: &[u16],
     pins: &[u16],
     mark: &[u8],
-    guide: &[u16],
+    guide: &Guide,
     z: usize,
     how: &mut [u64],
     seen: &mut [u16],
-    rows: &mut [u64],
+    rows: &mut Rows,
     sums: &mut [u32],
     flow: &mut [i32],
 ) -> usize
-    requires { Lay first.now mods.now weight.now nets.now at.now pins.now mark.now × Steady (card_of first.now mods.now weight.now mark.now) mods.now sums.old flow.old × Thread mods.now nets.now mark.now how.old seen.old (length weight.now) z × (get_or mark.now z 0 ≡ 2) × (length seen.old ≡ length weight.now) × (length guide.now ≡ numbers) × (length rows.old ≡ words) }
+    requires { Lay first.now mods.now weight.now nets.now at.now pins.now mark.now × Steady (card_of first.now mods.now weight.now mark.now) mods.now sums.old flow.old × Thread mods.now nets.now mark.now how.old seen.old (length weight.now) z × (get_or mark.now z 0 ≡ 2) × (length seen.old ≡ length weight.now) }
     ensures { Steady (card_of first.now mods.now weight.now mark.now) mods.now sums.new flow.new × Thread mods.now nets.now mark.now how.new seen.new (length weight.now) result }
 {
-    let mut stop = mark.len();
-    let mut tries: usize = 256;
-    while tries > 0 {
+    let mut stop: Option<usize> = None;
+    for _ in 0..PUSHES {
         stop = carry(
             first, mods, weight, nets, at, pins, mark, guide, z, &mut *how, &mut *seen, &mut *rows,
             &mut *sums, &mut *flow,
         );
-        tries = fewer(tries, stop < mark.len());
+        if stop.is_some() {
+            break;
+        }
     }
     back(
         mods,

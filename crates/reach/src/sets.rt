@@ -1,147 +1,138 @@
-// Sets as rows of bits, 64 to a word: the nets of a module in 8 words, the modules of a net in 4. All rows stand in one slice.
-ghost use Rattle.std.specs.Prelude.{◌≡◌, ◌+◌, ◌*◌, ◌≤◌, ◌<◌, length};
+// Sets of small numbers as rows of bits, 64 to a word.
+ghost use Rattle.std.specs.Prelude.{◌≡◌, ◌+◌, ◌-◌, ◌*◌, ◌^◌, ◌≤◌, ◌<◌, IfSome};
+ghost use Rattle.std.specs.Iterator.{at_most};
 
-// The words of a row of nets, and of a row of modules.
-pub const NETS: usize = 8;
+// The words of a row of modules, and of a row of nets.
+const MODULE_WORDS: usize = crate::MODULES / 64;
 
-pub const MODULES: usize = 4;
+const NET_WORDS: usize = crate::NETS / 64;
 
-// Where rows begin: the nets of each module (from 0 on), the modules of each net, the nets that each module sends into, the nets that have no room, the nets touched, the makers, the meters.
-pub const ENDS: usize = 2048;
+pub type Modules = Set<MODULE_WORDS>;
 
-pub const SENDS: usize = 4096;
+pub type Nets = Set<NET_WORDS>;
 
-pub const FULL: usize = 6144;
+// No module, and no net.
+pub const NO_MODULES: Modules = Set {
+    words: [0; MODULE_WORDS],
+};
 
-pub const TOUCHED: usize = 6152;
+pub const NO_NETS: Nets = Set {
+    words: [0; NET_WORDS],
+};
 
-pub const MAKERS: usize = 6160;
-
-pub const METERS: usize = 6164;
-
-// The place of the lowest bit.
-pub fn lowest(x: u64) -> usize
-    ensures { result < 64 }
-{
-    (u64::trailing_zeros(x) % 64) as usize
+// A set of numbers below 64 N.
+#[derive(Clone, Copy)]
+pub struct Set<const N: usize> {
+    words: [u64; N],
 }
 
-// All bits but the lowest.
-pub fn rest(x: u64) -> u64
-    requires { 0 < x }
-    ensures { result < x }
-{
-    x & (x - 1)
-}
+impl<const N: usize> Set<N> {
+    pub fn insert(&mut self, i: usize)
+        requires { i < 64 * N }
+    {
+        self.words[i / 64] |= 1 << (i % 64);
+    }
 
-// The smaller of two numbers.
-pub fn least(x: usize, y: usize) -> usize
-    ensures { (result ≤ x) × (result ≤ y) }
-{
-    if x <= y { x } else { y }
-}
+    pub fn remove(&mut self, i: usize)
+        requires { i < 64 * N }
+    {
+        self.words[i / 64] &= !(1 << (i % 64));
+    }
 
-// A number of an array brought below `count`.
-pub fn below(x: u16, count: usize) -> usize
-    requires { 0 < count }
-    ensures { result < count }
-{
-    x as usize % count
-}
+    // Has i as a member or not, as is asked.
+    pub fn put(&mut self, i: usize, member: bool)
+        requires { i < 64 * N }
+    {
+        if member {
+            self.insert(i);
+        } else {
+            self.remove(i);
+        }
+    }
 
-// A number of an array brought to `most` or below.
-pub fn up_to(x: u16, most: usize) -> usize
-    ensures { result ≤ most }
-{
-    least(x as usize, most)
-}
+    // Adds the members of the other.
+    pub fn join(&mut self, other: &Self) {
+        for (word, more) in self.words.iter_mut().zip(other.words.iter()) {
+            *word |= *more;
+        }
+    }
 
-// The bit of member i in its word.
-pub fn bit(i: usize) -> u64 {
-    1u64 << (i % 64)
-}
+    // The members that the other has not.
+    pub fn without(&self, other: &Self) -> Self {
+        let mut left = *self;
+        for (word, less) in left.words.iter_mut().zip(other.words.iter()) {
+            *word &= !*less;
+        }
+        left
+    }
 
-// The word with the bit of member i as is asked.
-pub fn with(word: u64, i: usize, on: bool) -> u64 {
-    let b = bit(i);
-    if on { word | b } else { word & !b }
-}
+    // Adds the members of the other: those that are new.
+    pub fn join_new(&mut self, other: &Self) -> Self {
+        let new = other.without(self);
+        self.join(&new);
+        new
+    }
 
-// Sets the word at i.
-pub fn set(rows: &mut [u64], i: usize, word: u64)
-    requires { i < length rows.old }
-{
-    rows[i] = word;
-}
+    pub fn is_empty(&self) -> bool {
+        self.words.iter().all(|word| *word == 0)
+    }
 
-// Adds bits to the word at i.
-pub fn add(rows: &mut [u64], i: usize, bits: u64)
-    requires { i < length rows.old }
-{
-    rows[i] = rows[i] | bits;
-}
+    // Have both a member?
+    pub fn meets(&self, other: &Self) -> bool {
+        self.words
+            .iter()
+            .zip(other.words.iter())
+            .any(|(x, y)| *x & *y != 0)
+    }
 
-// Adds the row that begins at `from`.
-pub fn join(rows: &[u64], from: usize, to: &mut [u64])
-    requires { from + length to.old ≤ length rows.now }
-{
-    let mut k: usize = 0;
-    while k < to.len() {
-        to[k] = to[k] | rows[from + k];
-        k += 1;
+    // Are all members in the other?
+    pub fn is_inside(&self, other: &Self) -> bool {
+        self.words
+            .iter()
+            .zip(other.words.iter())
+            .all(|(x, y)| *x & !*y == 0)
+    }
+
+    // The members, from the lowest.
+    pub fn members(&self) -> Members<'_, N>
+        requires some { 0 < N }
+        requires few { 64 * N < 2 ^ 64 }
+    {
+        Members {
+            words: &self.words,
+            at: 0,
+            rest: self.words[0],
+        }
     }
 }
 
-// Adds the rows of the members of a word, where those of its 64 begin at `from`; they are as long as the row that they are added to.
-pub fn join_members(rows: &[u64], from: usize, members: u64, to: &mut [u64])
-    requires { from + 64 * length to.old ≤ length rows.now }
-{
-    let mut x = members;
-    while x != 0 {
-        join(rows, from + lowest(x) * to.len(), &mut *to);
-        x = rest(x);
-    }
+// The members of a set that are still to come: those in `rest`, of the word at `at`, and those of the words after it.
+#[derive(Drop)]
+pub struct Members<'a, const N: usize> {
+    words: &'a [u64; N],
+    at: usize,
+    rest: u64,
+    ghost within: { at < N },
+    ghost few: { 64 * N < 2 ^ 64 },
 }
 
-// Sets place i to d, if there is one.
-fn put(places: &mut [u16], i: usize, d: u16) {
-    if i < places.len() {
-        places[i] = d;
-    }
-}
+impl<const N: usize> Iterator for Members<'_, N> {
+    type Item = usize;
 
-// Sets the places of the members of a word to d, where those of its 64 begin at `from`.
-pub fn mark_members(from: usize, members: u64, d: u16, places: &mut [u16])
-    requires { from ≤ 2048 }
-{
-    let mut x = members;
-    while x != 0 {
-        put(&mut *places, from + lowest(x), d);
-        x = rest(x);
-    }
-}
+    ghost next_gives = { λ _ result _. IfSome result (λ i. i < 64 * N) };
 
-// Has the row that begins at `from` a member that the other has, or has not, as is asked?
-pub fn meets(rows: &[u64], from: usize, other: &[u64], inside: bool) -> bool
-    requires { from + length other.now ≤ length rows.now }
-{
-    let mut all: u64 = 0;
-    let mut k: usize = 0;
-    while k < other.len() {
-        let o = other[k];
-        all = all | (rows[from + k] & if inside { o } else { !o });
-        k += 1;
-    }
-    all != 0
-}
+    ghost remaining = { λ s. at_most ((N - s.at) * 2 ^ 64 + s.rest) };
 
-// Sets the places from .. to to x.
-pub fn fill(places: &mut [u16], from: usize, to: usize, x: u16)
-    requires { to ≤ length places.old }
-{
-    let mut i = from;
-    while i < to {
-        places[i] = x;
-        i += 1;
+    fn next(&mut self) -> Option<usize> {
+        while self.rest == 0 {
+            if self.at + 1 == N {
+                return None;
+            }
+            self.at += 1;
+            self.rest = self.words[self.at];
+        }
+        let place = (u64::trailing_zeros(self.rest) % 64) as usize;
+        self.rest &= self.rest - 1;
+        Some(self.at * 64 + place)
     }
 }

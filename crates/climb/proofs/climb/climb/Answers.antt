@@ -1,8 +1,17 @@
--- `climb::climb::climb` meets its contract: the flow is steady with the sums just made. Assumes nothing.
+-- The flow is steady with the sums just made.
+use Rattle.std.proofs.Common.{◌≡◌, ℕ, ◌<◌, List, length, get_or, replicate, ap, ◌∙◌, arith}
+use Rattle.std.proofs.lemmas.List.{length-replicate, get_or-replicate}
+use Rattle.flow.proofs.Sets.{in_length}
 use Rattle.flow.proofs.WholeLaws.{summable_of, steady_of}
-use mathlib.Core.Path.{refl, ◌∙◌}
-use native.Mathlib.Omega.{arith}
+use Rattle.climb.specs.Climb.{Empty}
 use Rattle.climb.proofs.climb.climb.Goals as goal
+
+-- no module is on a way of zeros
+no_way : (w : List ℕ) (n : ℕ) → w ≡ replicate n 0 → Empty w
+no_way w n e m i =
+    let on : m < length w = in_length w m i in
+    let low : m < n = omega (arith, ap length e, length-replicate {A = ℕ} n 0) in
+    omega (arith, i, ap (λ (v : List ℕ). get_or v m 0) e, get_or-replicate {A = ℕ} n m 0 0 low)
 
 pub net_sums-requires : goal.net_sums-requires
 net_sums-requires c =
@@ -17,18 +26,4 @@ climb_on-requires c =
     let args = c.args in
     let heavy = c.type_inv.weight in
     let net-sums = c.net_sums in
-    let forget = c.forget in
-    let begin = c.begin in
-    (pre.0, steady_of args.first.now args.mods.now args.weight.now args.mark.now pre.0.laid (λ e l. omega (arith, heavy e)) args.flow.now pre.3 pre.4 _ (net-sums.auto.sums ∙ pre.2) (record { sum = λ e l. net-sums.ensures.sum e (omega (arith, net-sums.auto.sums)) }), record { how = forget.auto.how ∙ pre.1.how; seen = pre.1.seen }, refl, begin.auto.rows, forget.ensures)
-
-pub shape_of-how : goal.shape_of-how
-shape_of-how c =
-    let climb-on = c.climb_on in
-    let forget = c.forget in
-    climb-on.auto.how ∙ forget.auto.how
-
-pub shape_of-sums : goal.shape_of-sums
-shape_of-sums c =
-    let climb-on = c.climb_on in
-    let net-sums = c.net_sums in
-    climb-on.auto.sums ∙ net-sums.auto.sums
+    (pre.0, steady_of args.first.now args.mods.now args.weight.now args.mark.now pre.0.laid (λ e l. omega (arith, heavy e)) args.flow.now pre.3 pre.4 _ (net-sums.auto.sums ∙ pre.2) (record { sum = λ e l. net-sums.ensures.sum e (omega (arith, net-sums.auto.sums)) }), record { how = c.fill.auto.self ∙ pre.1.how; seen = pre.1.seen }, no_way c.fill.new.self (length args.how.now) (c.fill.ensures.after (λ _ e. e)))

@@ -1,17 +1,9 @@
--- `climb::climb::try_all` meets its contract: between meters the flow is steady and no module is on the way. Assumes nothing.
-use Rattle.reach.specs.Work.{words, numbers}
+-- Between meters the flow is steady and no module is on the way.
 use Rattle.climb.specs.Climb.{Empty, Sized}
 use Rattle.flow.specs.Raise.{Steady}
 use Rattle.flow.specs.Cards.{card_of}
-use lib.ListN.{length}
-use Prim.Native.Nat.{◌-◌}
-use mathlib.Core.Path.{◌≡◌}
 use Rattle.climb.proofs.climb.try_all.Given as goal
 
 abbrev pub invariant-loop-s : goal.invariant-loop-s
 invariant-loop-s l =
-    Steady (card_of l.first l.mods l.weight l.mark) l.mods l.sums l.flow × Sized l.mark l.weight l.how l.seen × Empty l.how × (length l.guide ≡ numbers) × (length l.rows ≡ words)
-
-abbrev pub decreases-loop-s : goal.decreases-loop-s
-decreases-loop-s l =
-    length l.mark - l.s
+    Steady (card_of l.first l.mods l.weight l.mark) l.mods l.sums l.flow × Sized l.mark l.weight l.how l.seen × Empty l.how

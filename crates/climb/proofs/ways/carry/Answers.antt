@@ -1,6 +1,5 @@
 -- `climb::ways::carry` meets its contract: the push leaves the flow steady, and mending leaves the flow alone. Assumes nothing.
 use Rattle.climb.proofs.Routes.{thread_level, thread_carries, thread_carried}
-use Rattle.climb.proofs.Threads.{tip_below}
 use native.Mathlib.Omega.{arith}
 use Rattle.climb.proofs.ways.carry.Goals as goal
 
@@ -10,17 +9,6 @@ push_from-n-requires c =
     let pre = c.requires in
     let heavy = c.type_inv.weight in
     thread_carries args.first.now args.mods.now args.weight.now args.nets.now args.at.now args.pins.now args.mark.now pre.0 (λ e l. omega (arith, heavy e)) args.how.now args.seen.now args.z pre.2 args.sums.now args.flow.now pre.1 pre.3
-
-pub offset_bounds-how-z : goal.offset_bounds-how-z
-offset_bounds-how-z c =
-    let pre = c.requires in
-    let good = c.well_formed in
-    record { fits = omega (arith, tip_below pre.2, pre.2.trail.lenw, good) }
-
-pub bounds-how-z : goal.bounds-how-z
-bounds-how-z c =
-    let pre = c.requires in
-    omega (arith, tip_below pre.2, pre.2.trail.lenw)
 
 pub returns-then-n-rank_of : goal.returns-then-n-rank_of
 returns-then-n-rank_of c =
@@ -36,7 +24,7 @@ mend-mended-requires c =
     let args = c.args in
     let heavy = c.type_inv.weight in
     let push-from = c.push_from-n in
-    (pre.0, thread_level args.first.now args.mods.now args.weight.now args.nets.now args.at.now args.pins.now args.mark.now pre.0 (λ e l. omega (arith, heavy e)) args.how.now args.seen.now args.z pre.2 _ _ (thread_carried args.first.now args.mods.now args.weight.now args.nets.now args.at.now args.pins.now args.mark.now pre.0 (λ e l. omega (arith, heavy e)) args.how.now args.seen.now args.z pre.2 args.sums.now args.flow.now pre.1 pre.3 push-from.ensures.1), pre.2, pre.4, pre.5, pre.6)
+    (pre.0, thread_level args.first.now args.mods.now args.weight.now args.nets.now args.at.now args.pins.now args.mark.now pre.0 (λ e l. omega (arith, heavy e)) args.how.now args.seen.now args.z pre.2 _ _ (thread_carried args.first.now args.mods.now args.weight.now args.nets.now args.at.now args.pins.now args.mark.now pre.0 (λ e l. omega (arith, heavy e)) args.how.now args.seen.now args.z pre.2 args.sums.now args.flow.now pre.1 pre.3 push-from.ensures.1), pre.2, pre.4)
 
 pub returns-then-mended : goal.returns-then-mended
 returns-then-mended c =

@@ -1,8 +1,6 @@
--- `climb::ways::leave` meets its contract. Assumes nothing.
-use mathlib.Core.Path.{◌≡◌, ap, ◌∙◌}
-use Prim.Native.Nat.{ℕ}
+-- The way ends at the module before, whose rank is lower.
+use Rattle.std.proofs.Common.{◌≡◌, ℕ, get_or, ap, ◌∙◌}
 use borrow.Author.Rules.{rules}
-use lib.ListN.{get_or}
 use Rattle.flow.specs.Search.{kind}
 use Rattle.climb.proofs.Threads.{thread_leave_room, thread_leave_undo, leave_lower}
 use Rattle.climb.proofs.ways.leave.Goals as goal
@@ -13,11 +11,11 @@ returns c =
     let args = c.args in
     let pre = c.requires in
     let a = c.left_pin-a in
-    let to = c.wide.ensures ∙ ap (λ (i : ℕ). get_or args.mods.now i 0) a.ensures in (
+    let to = c.from.ensures ∙ ap (λ (i : ℕ). get_or args.mods.now i 0) a.ensures in (
       elim c.if-eq.branch [
         | then-eq w ↦
             let room : kind (get_or args.how.now args.u 0) ≡ 0 = search rules in
-            thread_leave_room args.mods.now args.nets.now args.mark.now args.how.now args.seen.now args.count args.u pre.0 pre.1 to (w.wide-n.ensures ∙ ap (λ (i : ℕ). get_or args.nets.now i 0) a.ensures) w.seen-is room
+            thread_leave_room args.mods.now args.nets.now args.mark.now args.how.now args.seen.now args.count args.u pre.0 pre.1 to (w.from-n.ensures ∙ ap (λ (i : ℕ). get_or args.nets.now i 0) a.ensures) w.seen-is room
         | else-eq w ↦ thread_leave_undo args.mods.now args.nets.now args.mark.now args.how.now args.seen.now args.count args.u pre.0 pre.1 to w.seen-is
       ],
       leave_lower args.mods.now args.nets.now args.mark.now args.how.now args.seen.now args.count args.u pre.0 pre.1 to,

@@ -1,2 +1,0 @@
--- The laws of the rows, a file a subject.
-pub mod Places

@@ -1,2 +1,0 @@
--- What the contracts of `reach` cite.
-pub mod Work
