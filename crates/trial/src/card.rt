@@ -1,0 +1,157 @@
+// Books made from lists.
+ghost use Rattle.std.specs.Prelude.{◌≡◌, ◌+◌, ◌≤◌, ◌<◌, ◌++◌, [], length, take, drop, vec_len, replicate, ◌-◌, min, IfOk, OnOk};
+ghost use Rattle.trial.specs.Bytes.{two_bytes, four_bytes, entry, contents, mark_number};
+
+use std::alloc::{AllocError, Global};
+
+// What a module is marked as.
+#[derive(Clone, Copy)]
+pub enum Mark {
+    Free,
+    Meter,
+    Maker,
+}
+
+// A module: its area and its mark.
+#[derive(Clone, Copy)]
+pub struct Module(pub u16, pub Mark);
+
+// A net: its weight and its pins.
+#[derive(Clone, Copy)]
+pub struct Net<'a>(pub u16, pub &'a [u16]);
+
+// The three bodies of a book, as far as they are written.
+#[derive(Drop)]
+pub struct Draft {
+    pub modules: Vec<u8>,
+    pub nets: Vec<u8>,
+    pub pins: Vec<u8>,
+}
+
+fn push(body: &mut Vec<u8>, x: u16) -> Result<(), AllocError>
+    ensures { OnOk result (body.new.items ≡ body.old.items ++ two_bytes x) }
+{
+    body.extend_from_slice(&x.to_le_bytes())
+}
+
+fn push_wide(body: &mut Vec<u8>, x: u32) -> Result<(), AllocError>
+    ensures { OnOk result (body.new.items ≡ body.old.items ++ four_bytes x) }
+{
+    body.extend_from_slice(&x.to_le_bytes())
+}
+
+fn capped(n: usize) -> u32
+    ensures { result ≡ min n u32.MAX }
+{
+    u32::try_from(n).unwrap_or(u32::MAX)
+}
+
+// An entry of the contents: a kind of body, where the body starts and its length.
+fn push_entry(book: &mut Vec<u8>, kind: u16, start: usize, size: usize) -> Result<(), AllocError>
+    ensures { OnOk result (book.new.items ≡ book.old.items ++ entry kind start size) }
+{
+    push(&mut *book, kind)?;
+    push_wide(&mut *book, capped(start))?;
+    push_wide(&mut *book, capped(size))
+}
+
+impl Draft {
+    pub fn new(alloc: Global) -> Draft
+        ensures { (result.modules.items ≡ []) × (result.nets.items ≡ []) × (result.pins.items ≡ []) }
+    {
+        Draft {
+            modules: Vec::new(alloc),
+            nets: Vec::new(alloc),
+            pins: Vec::new(alloc),
+        }
+    }
+
+    pub fn add_module(&mut self, area: u16, mark: Mark) -> Result<(), AllocError>
+        ensures added { OnOk result (self.new.modules.items ≡ self.old.modules.items ++ two_bytes area ++ two_bytes (mark_number mark)) }
+        ensures others { (self.new.nets.items ≡ self.old.nets.items) × (self.new.pins.items ≡ self.old.pins.items) }
+    {
+        push(&mut self.modules, area)?;
+        push(&mut self.modules, mark as u16)
+    }
+}
+
+impl Draft {
+    pub fn add_net(&mut self, weight: u16, pins: u16) -> Result<(), AllocError>
+        ensures added { OnOk result (self.new.nets.items ≡ self.old.nets.items ++ two_bytes weight ++ two_bytes pins) }
+        ensures others { (self.new.modules.items ≡ self.old.modules.items) × (self.new.pins.items ≡ self.old.pins.items) }
+    {
+        push(&mut self.nets, weight)?;
+        push(&mut self.nets, pins)
+    }
+
+    pub fn add_pin(&mut self, m: u16) -> Result<(), AllocError>
+        ensures added { OnOk result (self.new.pins.items ≡ self.old.pins.items ++ two_bytes m) }
+        ensures others { (self.new.modules.items ≡ self.old.modules.items) × (self.new.nets.items ≡ self.old.nets.items) }
+    {
+        push(&mut self.pins, m)
+    }
+
+    // The book: its contents and the three bodies.
+    pub fn book(&self, alloc: Global) -> Result<Vec<u8>, AllocError>
+        ensures { IfOk result (λ v. v.items ≡ contents (vec_len self.now.modules) (vec_len self.now.nets) (vec_len self.now.pins) ++ self.now.modules.items ++ self.now.nets.items ++ self.now.pins.items) }
+    {
+        let nets_at = self.modules.len().saturating_add(32);
+        let pins_at = nets_at.saturating_add(self.nets.len());
+        let mut book = Vec::new(alloc);
+        push(&mut book, 3)?;
+        push_entry(&mut book, 1, 32, self.modules.len())?;
+        push_entry(&mut book, 2, nets_at, self.nets.len())?;
+        push_entry(&mut book, 3, pins_at, self.pins.len())?;
+        book.extend_from_slice(&self.modules)?;
+        book.extend_from_slice(&self.nets)?;
+        book.extend_from_slice(&self.pins)?;
+        Ok(book)
+    }
+}
+
+// The book of these modules and nets.
+pub fn make(alloc: Global, modules: &[Module], nets: &[Net<'_>]) -> Result<Vec<u8>, AllocError> {
+    let mut draft = Draft::new(alloc);
+    for Module(area, mark) in modules {
+        draft.add_module(*area, *mark)?;
+    }
+    for Net(weight, pins) in nets {
+        draft.add_net(*weight, u16::try_from(pins.len()).unwrap_or(u16::MAX))?;
+        for m in *pins {
+            draft.add_pin(*m)?;
+        }
+    }
+    draft.book(alloc)
+}
+
+// Bridge.
+pub fn bridge(alloc: Global) -> Result<Vec<u8>, AllocError> {
+    make(
+        alloc,
+        &[
+            Module(3, Mark::Meter),
+            Module(2, Mark::Free),
+            Module(2, Mark::Free),
+            Module(4, Mark::Maker),
+        ],
+        &[Net(2, &[0, 1]), Net(1, &[1, 2]), Net(2, &[2, 3])],
+    )
+}
+
+// Puts a number over the two bytes from an offset on; what lies outside the book is left out.
+pub fn put(book: &mut [u8], at: u16, x: u16)
+    ensures within { at + 2 ≤ length book.old → book.new ≡ take at book.old ++ two_bytes x ++ drop (at + 2) book.old }
+    ensures outside { length book.old < at + 2 → book.new ≡ book.old }
+{
+    let at = usize::from(at);
+    if at + 2 <= book.len() {
+        book[at..at + 2].copy_from_slice(&x.to_le_bytes());
+    }
+}
+
+// Cuts a book to a length, or fills it up with zeros.
+pub fn cut(book: &mut Vec<u8>, size: usize) -> Result<(), AllocError>
+    ensures { OnOk result (book.new.items ≡ take size book.old.items ++ replicate (size - vec_len book.old) 0) }
+{
+    book.resize(size, 0)
+}

@@ -1,0 +1,66 @@
+// What is printed of an answer.
+ghost use Rattle.std.specs.Prelude.{Some, ◌++◌, codes};
+ghost use Rattle.std.specs.Fmt.{decimal};
+ghost use Rattle.book.specs.Answer.{number_of, place_of};
+
+use book::Refusal;
+use std::fmt;
+
+// A refusal, its number and its place.
+#[derive(Clone, Copy)]
+pub struct Refused(pub Refusal);
+
+impl fmt::Display for Refused {
+    ghost output = { λ r. Some (codes "refused " ++ decimal (number_of r.0) ++ codes " at " ++ decimal (place_of r.0)) };
+
+    fn fmt<W: fmt::Write>(&self, f: &mut fmt::Formatter<W>) -> fmt::Result {
+        write!(f, "refused {} at {}", self.0.number(), self.0.place())
+    }
+}
+
+// An answer of a call, or why it was refused.
+pub struct Answer<T>(pub Result<T, Refusal>);
+
+impl<T: fmt::Display> fmt::Display for Answer<T> {
+    fn fmt<W: fmt::Write>(&self, f: &mut fmt::Formatter<W>) -> fmt::Result {
+        match &self.0 {
+            Ok(x) => write!(f, "{x}"),
+            Err(why) => write!(f, "{}", Refused(*why)),
+        }
+    }
+}
+
+// The modules of so many first ones that are on a side, or not; what lies outside the buffer is left out.
+#[derive(Clone, Copy)]
+pub enum Modules<'a> {
+    On(&'a [u8], u16),
+    AllBut(&'a [u8], u16),
+}
+
+fn is_on(side: &[u8], m: u16) -> Option<bool> {
+    let m = usize::from(m);
+    if m / 8 < side.len() {
+        Some(side::inside(side, m))
+    } else {
+        None
+    }
+}
+
+impl fmt::Display for Modules<'_> {
+    fn fmt<W: fmt::Write>(&self, f: &mut fmt::Formatter<W>) -> fmt::Result {
+        match *self {
+            Modules::On(side, count) => {
+                for m in (0..count).filter(|m| is_on(side, *m) == Some(true)) {
+                    write!(f, " {m}")?;
+                }
+            }
+            Modules::AllBut(side, count) => {
+                write!(f, " all but")?;
+                for m in (0..count).filter(|m| is_on(side, *m) == Some(false)) {
+                    write!(f, " {m}")?;
+                }
+            }
+        }
+        Ok(())
+    }
+}
