@@ -16,6 +16,13 @@ pub enum Mark {
 #[derive(Clone, Copy)]
 pub struct Module(pub u16, pub Mark);
 
+// The modules of area 1.
+pub const FREE: Module = Module(1, Mark::Free);
+
+pub const METER: Module = Module(1, Mark::Meter);
+
+pub const MAKER: Module = Module(1, Mark::Maker);
+
 // A net: its weight and its pins.
 #[derive(Clone, Copy)]
 pub struct Net<'a>(pub u16, pub &'a [u16]);
@@ -109,49 +116,65 @@ impl Draft {
     }
 }
 
-// The book of these modules and nets.
-pub fn make(alloc: Global, modules: &[Module], nets: &[Net<'_>]) -> Result<Vec<u8>, AllocError> {
-    let mut draft = Draft::new(alloc);
-    for Module(area, mark) in modules {
-        draft.add_module(*area, *mark)?;
-    }
-    for Net(weight, pins) in nets {
-        draft.add_net(*weight, u16::try_from(pins.len()).unwrap_or(u16::MAX))?;
-        for m in *pins {
-            draft.add_pin(*m)?;
+// A card from lists: its modules and its nets.
+#[derive(Clone, Copy)]
+pub struct Card<'a> {
+    pub modules: &'a [Module],
+    pub nets: &'a [Net<'a>],
+}
+
+// A number of two bytes to be put over what stands at an offset.
+#[derive(Clone, Copy)]
+pub struct Put(pub u16, pub u16);
+
+impl Put {
+    // Puts it over a book; what lies outside is left out.
+    pub fn over(self, book: &mut [u8])
+        ensures within { self.0 + 2 ≤ length book.old → book.new ≡ take self.0 book.old ++ two_bytes self.1 ++ drop (self.0 + 2) book.old }
+        ensures outside { length book.old < self.0 + 2 → book.new ≡ book.old }
+    {
+        let at = usize::from(self.0);
+        if at + 2 <= book.len() {
+            book[at..at + 2].copy_from_slice(&self.1.to_le_bytes());
         }
     }
-    draft.book(alloc)
+}
+
+impl Card<'_> {
+    pub fn book(&self, alloc: Global) -> Result<Vec<u8>, AllocError> {
+        let mut draft = Draft::new(alloc);
+        for Module(area, mark) in self.modules {
+            draft.add_module(*area, *mark)?;
+        }
+        for Net(weight, pins) in self.nets {
+            draft.add_net(*weight, u16::try_from(pins.len()).unwrap_or(u16::MAX))?;
+            for m in *pins {
+                draft.add_pin(*m)?;
+            }
+        }
+        draft.book(alloc)
+    }
+
+    // The book with numbers put over its own, cut to a length or filled up with zeros.
+    pub fn edited(&self, alloc: Global, puts: &[Put], size: usize) -> Result<Vec<u8>, AllocError>
+        ensures { IfOk result (λ v. vec_len v ≡ size) }
+    {
+        let mut book = self.book(alloc)?;
+        for x in puts {
+            x.over(book.as_mut_slice());
+        }
+        book.resize(size, 0)?;
+        Ok(book)
+    }
 }
 
 // Bridge.
-pub fn bridge(alloc: Global) -> Result<Vec<u8>, AllocError> {
-    make(
-        alloc,
-        &[
-            Module(3, Mark::Meter),
-            Module(2, Mark::Free),
-            Module(2, Mark::Free),
-            Module(4, Mark::Maker),
-        ],
-        &[Net(2, &[0, 1]), Net(1, &[1, 2]), Net(2, &[2, 3])],
-    )
-}
-
-// Puts a number over the two bytes from an offset on; what lies outside the book is left out.
-pub fn put(book: &mut [u8], at: u16, x: u16)
-    ensures within { at + 2 ≤ length book.old → book.new ≡ take at book.old ++ two_bytes x ++ drop (at + 2) book.old }
-    ensures outside { length book.old < at + 2 → book.new ≡ book.old }
-{
-    let at = usize::from(at);
-    if at + 2 <= book.len() {
-        book[at..at + 2].copy_from_slice(&x.to_le_bytes());
-    }
-}
-
-// Cuts a book to a length, or fills it up with zeros.
-pub fn cut(book: &mut Vec<u8>, size: usize) -> Result<(), AllocError>
-    ensures { OnOk result (book.new.items ≡ take size book.old.items ++ replicate (size - vec_len book.old) 0) }
-{
-    book.resize(size, 0)
-}
+pub const BRIDGE: Card<'static> = Card {
+    modules: &[
+        Module(3, Mark::Meter),
+        Module(2, Mark::Free),
+        Module(2, Mark::Free),
+        Module(4, Mark::Maker),
+    ],
+    nets: &[Net(2, &[0, 1]), Net(1, &[1, 2]), Net(2, &[2, 3])],
+};

@@ -5,6 +5,6 @@ mod card;
 mod lent;
 mod said;
 
-pub use card::{Draft, Mark, Module, Net, bridge, cut, make, put};
+pub use card::{BRIDGE, Card, Draft, FREE, MAKER, METER, Mark, Module, Net, Put};
 pub use lent::kept;
 pub use said::{Answer, Modules, Refused};

@@ -19,6 +19,7 @@ impl fmt::Display for Refused {
 }
 
 // An answer of a call, or why it was refused.
+#[derive(Clone, Copy)]
 pub struct Answer<T>(pub Result<T, Refusal>);
 
 impl<T: fmt::Display> fmt::Display for Answer<T> {
@@ -30,15 +31,14 @@ impl<T: fmt::Display> fmt::Display for Answer<T> {
     }
 }
 
-// The modules of so many first ones that are on a side, or not; what lies outside the buffer is left out.
+// The modules on a side of so many modules, its spare bits too, or those it lacks; what lies outside the buffer is left out.
 #[derive(Clone, Copy)]
 pub enum Modules<'a> {
-    On(&'a [u8], u16),
-    AllBut(&'a [u8], u16),
+    On(&'a [u8], usize),
+    AllBut(&'a [u8], usize),
 }
 
-fn is_on(side: &[u8], m: u16) -> Option<bool> {
-    let m = usize::from(m);
+fn is_on(side: &[u8], m: usize) -> Option<bool> {
     if m / 8 < side.len() {
         Some(side::inside(side, m))
     } else {
@@ -50,7 +50,8 @@ impl fmt::Display for Modules<'_> {
     fn fmt<W: fmt::Write>(&self, f: &mut fmt::Formatter<W>) -> fmt::Result {
         match *self {
             Modules::On(side, count) => {
-                for m in (0..count).filter(|m| is_on(side, *m) == Some(true)) {
+                let whole = count.div_ceil(8).saturating_mul(8);
+                for m in (0..whole).filter(|m| is_on(side, *m) == Some(true)) {
                     write!(f, " {m}")?;
                 }
             }
