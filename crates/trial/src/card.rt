@@ -1,6 +1,7 @@
 // Books made from lists.
 ghost use Rattle.std.specs.Prelude.{◌≡◌, ◌+◌, ◌≤◌, ◌<◌, ◌++◌, [], length, take, drop, vec_len, replicate, ◌-◌, min, IfOk, OnOk};
 ghost use Rattle.trial.specs.Bytes.{two_bytes, four_bytes, entry, contents, mark_number};
+ghost use Rattle.trial.specs.Cards.{module_records, pin_records, net_records, all_pins, book_of};
 
 use std::alloc::{AllocError, Global};
 
@@ -98,6 +99,39 @@ impl Draft {
         push(&mut self.pins, m)
     }
 
+    fn add_modules(&mut self, modules: &[Module]) -> Result<(), AllocError>
+        ensures added { OnOk result (self.new.modules.items ≡ self.old.modules.items ++ module_records modules.now) }
+        ensures others { (self.new.nets.items ≡ self.old.nets.items) × (self.new.pins.items ≡ self.old.pins.items) }
+    {
+        for m in modules {
+            self.add_module(m.0, m.1)?;
+        }
+        Ok(())
+    }
+
+    fn add_pins(&mut self, pins: &[u16]) -> Result<(), AllocError>
+        ensures added { OnOk result (self.new.pins.items ≡ self.old.pins.items ++ pin_records pins.now) }
+        ensures others { (self.new.modules.items ≡ self.old.modules.items) × (self.new.nets.items ≡ self.old.nets.items) }
+    {
+        for m in pins {
+            self.add_pin(*m)?;
+        }
+        Ok(())
+    }
+
+    // Nets and their pins; a count beyond two bytes is the largest that they hold.
+    fn add_nets(&mut self, nets: &[Net<'_>]) -> Result<(), AllocError>
+        ensures added { OnOk result (self.new.nets.items ≡ self.old.nets.items ++ net_records nets.now) }
+        ensures pins { OnOk result (self.new.pins.items ≡ self.old.pins.items ++ all_pins nets.now) }
+        ensures others { self.new.modules.items ≡ self.old.modules.items }
+    {
+        for net in nets {
+            self.add_net(net.0, u16::try_from(net.1.len()).unwrap_or(u16::MAX))?;
+            self.add_pins(net.1)?;
+        }
+        Ok(())
+    }
+
     // The book: its contents and the three bodies.
     pub fn book(&self, alloc: Global) -> Result<Vec<u8>, AllocError>
         ensures { IfOk result (λ v. v.items ≡ contents (vec_len self.now.modules) (vec_len self.now.nets) (vec_len self.now.pins) ++ self.now.modules.items ++ self.now.nets.items ++ self.now.pins.items) }
@@ -141,17 +175,12 @@ impl Put {
 }
 
 impl Card<'_> {
-    pub fn book(&self, alloc: Global) -> Result<Vec<u8>, AllocError> {
+    pub fn book(&self, alloc: Global) -> Result<Vec<u8>, AllocError>
+        ensures { IfOk result (λ v. v.items ≡ book_of self.now.modules.now self.now.nets.now) }
+    {
         let mut draft = Draft::new(alloc);
-        for Module(area, mark) in self.modules {
-            draft.add_module(*area, *mark)?;
-        }
-        for Net(weight, pins) in self.nets {
-            draft.add_net(*weight, u16::try_from(pins.len()).unwrap_or(u16::MAX))?;
-            for m in *pins {
-                draft.add_pin(*m)?;
-            }
-        }
+        draft.add_modules(self.modules)?;
+        draft.add_nets(self.nets)?;
         draft.book(alloc)
     }
 
