@@ -1,5 +1,5 @@
 -- The bytes that a book is made of: little-endian numbers, one after the other.
-use Rattle.std.specs.Prelude.{ℕ, ◌+◌, ◌*◌, ◌-◌, ◌^◌, List, ◌++◌, min}
+use Rattle.std.specs.Prelude.{ℕ, ◌+◌, ◌-◌, ◌^◌, List, ◌++◌, min}
 use Rattle.std.specs.Int.{to_le_bytes, w16, w32}
 use Rattle.trial.specs.declared.card.Mark.{Mark}
 use Rattle.trial.specs.declared.card.Mark.TheVariants.{Free, Meter, Maker}

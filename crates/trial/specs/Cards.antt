@@ -1,8 +1,9 @@
 -- The book of a card: its contents, and a record for each module, net and pin.
-use Rattle.std.specs.Prelude.{ℕ, ◌-◌, ◌^◌, List, ◌++◌, length, min}
+use Rattle.std.specs.Prelude.{ℕ, ◌+◌, ◌-◌, ◌^◌, List, ◌++◌, length, take, drop, replicate, fold, nat_le, min, if◌then◌else◌}
 use Rattle.std.specs.List.{flat_map}
 use Rattle.trial.specs.declared.card.Module.{Module}
 use Rattle.trial.specs.declared.card.Net.{Net}
+use Rattle.trial.specs.declared.card.Put.{Put}
 use Rattle.trial.specs.Bytes.{two_bytes, contents, mark_number}
 
 abbrev pub module_records : List Module → List ℕ
@@ -24,3 +25,13 @@ book_of ms ns =
     ++ module_records ms
     ++ net_records ns
     ++ all_pins ns
+
+-- a number put over the two bytes from an offset on, where both are there
+abbrev pub put_over : List ℕ → Put → List ℕ
+put_over b x =
+    if nat_le (x.0 + 2) (length b) then take x.0 b ++ two_bytes x.1 ++ drop (x.0 + 2) b else b
+
+-- numbers put over a book, which is then cut to a length or filled up with zeros
+abbrev pub edited_of : List ℕ → List Put → ℕ → List ℕ
+edited_of b xs size =
+    let whole = fold put_over b xs in take size whole ++ replicate (size - length whole) 0

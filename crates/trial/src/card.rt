@@ -1,7 +1,7 @@
 // Books made from lists.
 ghost use Rattle.std.specs.Prelude.{◌≡◌, ◌+◌, ◌≤◌, ◌<◌, ◌++◌, [], length, take, drop, vec_len, replicate, ◌-◌, min, IfOk, OnOk};
 ghost use Rattle.trial.specs.Bytes.{two_bytes, four_bytes, entry, contents, mark_number};
-ghost use Rattle.trial.specs.Cards.{module_records, pin_records, net_records, all_pins, book_of};
+ghost use Rattle.trial.specs.Cards.{module_records, pin_records, net_records, all_pins, book_of, put_over, edited_of};
 
 use std::alloc::{AllocError, Global};
 
@@ -64,6 +64,7 @@ fn push_entry(book: &mut Vec<u8>, kind: u16, start: usize, size: usize) -> Resul
 }
 
 impl Draft {
+    // A book without a record.
     pub fn new(alloc: Global) -> Draft
         ensures { (result.modules.items ≡ []) × (result.nets.items ≡ []) × (result.pins.items ≡ []) }
     {
@@ -74,6 +75,7 @@ impl Draft {
         }
     }
 
+    // A module.
     pub fn add_module(&mut self, area: u16, mark: Mark) -> Result<(), AllocError>
         ensures added { OnOk result (self.new.modules.items ≡ self.old.modules.items ++ two_bytes area ++ two_bytes (mark_number mark)) }
         ensures others { (self.new.nets.items ≡ self.old.nets.items) × (self.new.pins.items ≡ self.old.pins.items) }
@@ -81,9 +83,8 @@ impl Draft {
         push(&mut self.modules, area)?;
         push(&mut self.modules, mark as u16)
     }
-}
 
-impl Draft {
+    // A net, and how many pins it has; the pins are added apart.
     pub fn add_net(&mut self, weight: u16, pins: u16) -> Result<(), AllocError>
         ensures added { OnOk result (self.new.nets.items ≡ self.old.nets.items ++ two_bytes weight ++ two_bytes pins) }
         ensures others { (self.new.modules.items ≡ self.old.modules.items) × (self.new.pins.items ≡ self.old.pins.items) }
@@ -92,6 +93,7 @@ impl Draft {
         push(&mut self.nets, pins)
     }
 
+    // A pin, on module m.
     pub fn add_pin(&mut self, m: u16) -> Result<(), AllocError>
         ensures added { OnOk result (self.new.pins.items ≡ self.old.pins.items ++ two_bytes m) }
         ensures others { (self.new.modules.items ≡ self.old.modules.items) × (self.new.nets.items ≡ self.old.nets.items) }
@@ -164,8 +166,7 @@ pub struct Put(pub u16, pub u16);
 impl Put {
     // Puts it over a book; what lies outside is left out.
     pub fn over(self, book: &mut [u8])
-        ensures within { self.0 + 2 ≤ length book.old → book.new ≡ take self.0 book.old ++ two_bytes self.1 ++ drop (self.0 + 2) book.old }
-        ensures outside { length book.old < self.0 + 2 → book.new ≡ book.old }
+        ensures { book.new ≡ put_over book.old self }
     {
         let at = usize::from(self.0);
         if at + 2 <= book.len() {
@@ -175,6 +176,7 @@ impl Put {
 }
 
 impl Card<'_> {
+    // The book of the card.
     pub fn book(&self, alloc: Global) -> Result<Vec<u8>, AllocError>
         ensures { IfOk result (λ v. v.items ≡ book_of self.now.modules.now self.now.nets.now) }
     {
@@ -186,7 +188,7 @@ impl Card<'_> {
 
     // The book with numbers put over its own, cut to a length or filled up with zeros.
     pub fn edited(&self, alloc: Global, puts: &[Put], size: usize) -> Result<Vec<u8>, AllocError>
-        ensures { IfOk result (λ v. vec_len v ≡ size) }
+        ensures { IfOk result (λ v. v.items ≡ edited_of (book_of self.now.modules.now self.now.nets.now) puts.now size) }
     {
         let mut book = self.book(alloc)?;
         for x in puts {

@@ -1,7 +1,6 @@
 // What is printed of an answer.
-ghost use Rattle.std.specs.Prelude.{Some, ◌++◌, codes};
-ghost use Rattle.std.specs.Fmt.{decimal};
-ghost use Rattle.book.specs.Answer.{number_of, place_of};
+ghost use Rattle.std.specs.Prelude.{Some};
+ghost use Rattle.trial.specs.Said.{refused_text, answer_text};
 
 use book::Refusal;
 use std::fmt;
@@ -11,7 +10,7 @@ use std::fmt;
 pub struct Refused(pub Refusal);
 
 impl fmt::Display for Refused {
-    ghost output = { λ r. Some (codes "refused " ++ decimal (number_of r.0) ++ codes " at " ++ decimal (place_of r.0)) };
+    ghost output = { λ r. Some (refused_text r.0) };
 
     fn fmt<W: fmt::Write>(&self, f: &mut fmt::Formatter<W>) -> fmt::Result {
         write!(f, "refused {} at {}", self.0.number(), self.0.place())
@@ -23,6 +22,8 @@ impl fmt::Display for Refused {
 pub struct Answer<T>(pub Result<T, Refusal>);
 
 impl<T: fmt::Display> fmt::Display for Answer<T> {
+    ghost output = { λ a. answer_text T.output a.0 };
+
     fn fmt<W: fmt::Write>(&self, f: &mut fmt::Formatter<W>) -> fmt::Result {
         match &self.0 {
             Ok(x) => write!(f, "{x}"),
