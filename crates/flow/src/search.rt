@@ -1,3 +1,5 @@
+// The search by a queue, and how a step is told in one number.
+// What it writes stays three slices, the queue, `how` and `seen`: as fields of one struct they were tried, and the proof of `engine::raise` did not close, since what is lent as `&` out of a `&mut` field, as `how` is to a push, keeps its length there and not its numbers.
 ghost use Rattle.std.specs.Prelude.{◌≡◌, ◌≢◌, ◌↔◌, IsTrue, ◌+◌, ◌*◌, ◌≤◌, ◌<◌, length, get_or, ltb};
 ghost use Rattle.flow.specs.Search.{or, gives, way_from, st, Room, Spread, PinDone, PinsDone, Fitted, Seen, Begun, Sizes, Found, Kind as Leaves, Enough, Mark};
 ghost use Rattle.flow.specs.Kinds.{number_of};
@@ -16,7 +18,7 @@ struct Scan {
     back: bool,
 }
 
-// How a module was reached, in one number: its place in the queue and 1, the pin left and the kind of step, the pin entered.
+// How a module was reached, in one number: its place in the queue and 1, the pin left and the kind of step, the pin entered. It stays one number: `Found` reads it by `rank`, `left`, `kind` and `entered` (specs/Search).
 pub fn pack(rank: usize, from: u64, pin: usize) -> u64
     requires { (rank < 65536) × (from ≤ 4294901760) × (pin < 65536) }
     ensures { result ≡ rank * 4294967296 + from + pin }
