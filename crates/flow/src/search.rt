@@ -98,7 +98,7 @@ fn seen_enough(s: u16, kind: Kind) -> bool
     s > 1 || kind == Kind::Entered && s == 1
 }
 
-// The mark of a net after steps of this kind from pin a: 1 if the pins that send were reached, a + 2 if all were.
+// The mark of a net after steps of this kind from pin a: 1 if the pins that send were reached, a + 2 if all were. It stays a number, which `Found` reads for a step by the net's room (`opens` of `Link`).
 fn seen_mark(a: u16, kind: Kind) -> u16
     requires { a < 16384 }
     ensures only { number_of kind ≡ 2 → result ≡ 1 }
@@ -160,13 +160,13 @@ fn visit(
     ensures { PinsDone back board.now.first.now board.now.mods.now board.now.weight.now flow.now sums.now board.now.nets.now board.now.pins.now u (get_or board.now.at.now u 0) (get_or board.now.at.now (u + 1) 0) (st queue.old how.old seen.old) t (st queue.new how.new seen.new) result }
 {
     let mut tail = t;
-    for i in usize::from(board.at[u])..usize::from(board.at[u + 1]) {
+    for a in &board.pins[usize::from(board.at[u])..usize::from(board.at[u + 1])] {
         tail = visit_pin(
             board,
             sums,
             flow,
             back,
-            board.pins[i],
+            *a,
             tail,
             &mut *queue,
             &mut *how,
