@@ -1,11 +1,12 @@
 -- What a board holds, for the laws of the search: its tables out of the truncation, since a pin's place can be looked for. Assumes nothing.
-use mathlib.Core.Path.{◌≡◌, subst}
+use mathlib.Core.Path.{◌≡◌, sym, ap, ◌∙◌, subst}
 use mathlib.Core.Logic.{◌⊎◌, inl, inr, ⊎_elim}
 use mathlib.Core.List.{List}
-use Prim.Native.Nat.{ℕ, zero, suc, ◌≤◌, ◌<◌}
+use Prim.Native.Nat.{ℕ, zero, suc, ◌+◌, ◌-◌, ◌≤◌, ◌<◌}
 use native.Mathlib.Decide.{ℕ_discrete}
 use native.Mathlib.Omega.{arith}
-use lib.ListN.{length, get_or}
+use lib.ListN.{length, get_or, take, drop}
+use lib.Seq.{get_or-take, get_or-drop}
 use lib.IntN.{ℤ}
 use Rattle.std.proofs.Math.Logic.{∥∥₁_elim}
 use Rattle.std.proofs.Props.{props}
@@ -70,3 +71,17 @@ visit_at b a f l =
 
 pub heavy_of : (b : Board) (n : ℕ) → n < length b.weight.now → get_or b.weight.now n 0 ≤ 65535
 heavy_of b n l = omega (arith, b.light n)
+
+-- a module's own pins, as a slice of the pins module by module
+pub record Own (b : Board) (u k a : ℕ) : Type 0 where
+  pub at : a ≡ get_or b.pins.now k 0
+  pub pin : a < length b.mods.now
+  pub mine : get_or b.mods.now (get_or b.pins.now k 0) 0 ≡ u
+
+pub own_at : (b : Board) (u i : ℕ) {lo hi : ℕ} → u < length b.mark.now → lo ≡ get_or b.at.now u 0 → hi ≡ get_or b.at.now (u + 1) 0 → i < hi - lo →
+    Own b u (get_or b.at.now u 0 + i) (get_or (take (hi - lo) (drop lo b.pins.now)) i 0)
+own_at b u i {lo} {hi} l el eh li =
+    let t = tables_of b in
+    let o = t.own u (get_or b.at.now u 0 + i) l (record { low = omega arith; high = omega arith }) in
+    let e : get_or (take (hi - lo) (drop lo b.pins.now)) i 0 ≡ get_or b.pins.now (get_or b.at.now u 0 + i) 0 = get_or-take (hi - lo) (drop lo b.pins.now) i 0 li ∙ get_or-drop lo b.pins.now i 0 ∙ ap (λ (k : ℕ). get_or b.pins.now (k + i) 0) el in
+    record { at = e; pin = subst (λ (a : ℕ). a < length b.mods.now) (sym e) o.0; mine = o.1 }

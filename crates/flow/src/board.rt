@@ -2,7 +2,7 @@
 ghost use Rattle.std.specs.Prelude.{◌≡◌, ℕ, ◌+◌, ◌<◌, length, get_or};
 ghost use Rattle.flow.specs.Search.{Tables};
 
-// The first pin of each net and the end of the last, the module of each pin, the weight of each net; the net of each pin, the pins module by module and where each module's begin; the mark of each module.
+// The first pin of each net and the end of the last, the module of each pin, the weight of each net; the net of each pin, where each module's pins begin, the pins module by module; the mark of each module, which stays a number, as `card_of` reads it.
 #[derive(Clone, Copy)]
 pub struct Board<'a> {
     pub first: &'a [u16],

@@ -1,3 +1,5 @@
+// The search by a queue, and how a step is told in one number.
+// What it writes stays three slices, the queue, `how` and `seen`: as fields of one struct they were tried, and the proof of `engine::raise` did not close, since what is lent as `&` out of a `&mut` field, as `how` is to a push, keeps its length there and not its numbers.
 ghost use Rattle.std.specs.Prelude.{◌≡◌, ◌≢◌, ◌↔◌, IsTrue, ◌+◌, ◌*◌, ◌≤◌, ◌<◌, length, get_or, ltb};
 ghost use Rattle.flow.specs.Search.{or, gives, way_from, st, Room, Spread, PinDone, PinsDone, Fitted, Seen, Begun, Sizes, Found, Kind as Leaves, Enough, Mark};
 ghost use Rattle.flow.specs.Kinds.{number_of};
@@ -16,7 +18,7 @@ struct Scan {
     back: bool,
 }
 
-// How a module was reached, in one number: its place in the queue and 1, the pin left and the kind of step, the pin entered.
+// How a module was reached, in one number: its place in the queue and 1, the pin left and the kind of step, the pin entered. It stays one number: `Found` reads it by `rank`, `left`, `kind` and `entered` (specs/Search).
 pub fn pack(rank: usize, from: u64, pin: usize) -> u64
     requires { (rank < 65536) × (from ≤ 4294901760) × (pin < 65536) }
     ensures { result ≡ rank * 4294967296 + from + pin }
@@ -96,7 +98,7 @@ fn seen_enough(s: u16, kind: Kind) -> bool
     s > 1 || kind == Kind::Entered && s == 1
 }
 
-// The mark of a net after steps of this kind from pin a: 1 if the pins that send were reached, a + 2 if all were.
+// The mark of a net after steps of this kind from pin a: 1 if the pins that send were reached, a + 2 if all were. It stays a number, which `Found` reads for a step by the net's room (`opens` of `Link`).
 fn seen_mark(a: u16, kind: Kind) -> u16
     requires { a < 16384 }
     ensures only { number_of kind ≡ 2 → result ≡ 1 }
@@ -158,13 +160,13 @@ fn visit(
     ensures { PinsDone back board.now.first.now board.now.mods.now board.now.weight.now flow.now sums.now board.now.nets.now board.now.pins.now u (get_or board.now.at.now u 0) (get_or board.now.at.now (u + 1) 0) (st queue.old how.old seen.old) t (st queue.new how.new seen.new) result }
 {
     let mut tail = t;
-    for i in usize::from(board.at[u])..usize::from(board.at[u + 1]) {
+    for a in &board.pins[usize::from(board.at[u])..usize::from(board.at[u + 1])] {
         tail = visit_pin(
             board,
             sums,
             flow,
             back,
-            board.pins[i],
+            *a,
             tail,
             &mut *queue,
             &mut *how,
