@@ -14,7 +14,7 @@ pub struct Card<'a> {
 
 impl<'a> Card<'a> {
     // How many nets the rows have room for.
-    pub fn count(&self) -> usize
+    pub(crate) fn count(&self) -> usize
         ensures few { result ≤ 512 }
         ensures within { result ≤ length self.now.weight.now }
     {
@@ -32,7 +32,7 @@ impl<'a> Card<'a> {
     }
 
     // The modules of the pins of net n.
-    pub fn modules(&self, n: usize) -> &'a [u16]
+    pub(crate) fn modules(&self, n: usize) -> &'a [u16]
         requires { n < length self.now.weight.now }
     {
         let pins = self.pins(n);
@@ -52,7 +52,7 @@ pub struct Flow<'a, 'b> {
 
 impl<'b> Flow<'_, 'b> {
     // What goes into net n at its pins.
-    pub fn at(&self, n: usize) -> &'b [i32]
+    pub(crate) fn at(&self, n: usize) -> &'b [i32]
         requires { n < length self.now.card.weight.now }
     {
         let pins = self.card.pins(n);
@@ -60,7 +60,7 @@ impl<'b> Flow<'_, 'b> {
     }
 
     // Has net n no room for more than it sends?
-    pub fn is_full(&self, n: usize) -> bool
+    pub(crate) fn is_full(&self, n: usize) -> bool
         requires { n < length self.now.card.weight.now }
     {
         self.sums[n] >= u32::from(self.card.weight[n])

@@ -22,7 +22,7 @@ impl Guide {
     };
 
     // Forgets what was found.
-    pub fn clear(&mut self) {
+    pub(crate) fn clear(&mut self) {
         self.far.fill(FAR);
         self.whole.fill(0);
         self.part.fill(0);

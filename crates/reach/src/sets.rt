@@ -124,6 +124,7 @@ impl<const N: usize> Iterator for Members<'_, N> {
     ghost remaining = { λ s. at_most ((N - s.at) * 2 ^ 64 + s.rest) };
 
     fn next(&mut self) -> Option<usize> {
+        // No `for` over the words: the place goes on where the call before left it.
         while self.rest == 0 {
             if self.at + 1 == N {
                 return None;
