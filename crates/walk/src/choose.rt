@@ -1,5 +1,5 @@
 // The module that a round takes, and the marks after it.
-ghost use Rattle.std.specs.Prelude.{◌≡◌, ◌+◌, ◌/◌, ◌<◌, ◌≤◌, length, if◌then◌else◌};
+ghost use Rattle.std.specs.Prelude.{◌≡◌, ◌+◌, ◌/◌, ◌<◌, ◌≤◌, length};
 ghost use Rattle.line.specs.Card.{either};
 ghost use Rattle.line.specs.Flow.{only};
 ghost use Rattle.book.specs.First.{lowest};
@@ -67,7 +67,7 @@ impl Candidates<'_> {
     pub fn choose(&self) -> Option<usize>
         ensures { result ≡ choice_in self.now.marks.now (side_from self.now.on (side_of self.now.x.now)) self.now.cut.now }
     {
-        // Not `or_else`: of a closure that calls a method of `self` it tells nothing.
+        // Tried as `or_else`: the closure over `self` promises nothing there, and the proof does not close.
         match self.lowest_cut() {
             Some(m) => Some(m),
             None => self.lowest_free(),
