@@ -1,5 +1,5 @@
 // The module that a round takes, and the marks after it.
-ghost use Rattle.std.specs.Prelude.{◌≡◌, ◌+◌, ◌/◌, ◌<◌, ◌≤◌, length, if◌then◌else◌};
+ghost use Rattle.std.specs.Prelude.{◌≡◌, ◌+◌, ◌/◌, ◌<◌, ◌≤◌, length};
 ghost use Rattle.line.specs.Card.{either};
 ghost use Rattle.line.specs.Flow.{only};
 ghost use Rattle.book.specs.First.{lowest};
@@ -21,44 +21,58 @@ fn is_on(x: &[u8], on: bool, m: usize) -> bool
     }
 }
 
-// Whether it is free too.
-fn is_free_on(marks: &[u8], x: &[u8], on: bool, m: usize) -> bool
-    requires { (m < length marks.now) × (bytes_for (length marks.now) ≤ length x.now) }
-    ensures { result ≡ free_in (marks_of marks.now) (side_from on (side_of x.now)) m }
-{
-    is_on(x, on, m) & (marks[m] == 0)
+// The modules that a round chooses from: free ones inside X, or outside it, as is asked; and a row of those with a pin on a net that X cuts.
+#[derive(Clone, Copy)]
+pub struct Candidates<'a> {
+    pub marks: &'a [u8],
+    pub x: &'a [u8],
+    pub on: bool,
+    pub cut: &'a [u8],
+    pub ghost x_fits: { bytes_for (length marks.now) ≤ length x.now },
+    pub ghost cut_fits: { bytes_for (length marks.now) ≤ length cut.now },
 }
 
-// The lowest free module on that side.
-fn lowest_free(marks: &[u8], x: &[u8], on: bool) -> Option<usize>
-    requires { bytes_for (length marks.now) ≤ length x.now }
-    ensures { result ≡ lowest (free_in (marks_of marks.now) (side_from on (side_of x.now))) (length marks.now) }
-{
-    (0..marks.len()).find(|&m| is_free_on(marks, x, on, m))
-}
+impl Candidates<'_> {
+    // Whether module m is free on that side.
+    fn is_free(&self, m: usize) -> bool
+        requires { m < length self.now.marks.now }
+        ensures { result ≡ free_in (marks_of self.now.marks.now) (side_from self.now.on (side_of self.now.x.now)) m }
+    {
+        is_on(self.x, self.on, m) & (self.marks[m] == 0)
+    }
 
-// Whether it has a pin on a net that X cuts too.
-fn is_free_in(marks: &[u8], x: &[u8], on: bool, cut: &[u8], m: usize) -> bool
-    requires { (m < length marks.now) × (bytes_for (length marks.now) ≤ length x.now) × (bytes_for (length marks.now) ≤ length cut.now) }
-    ensures { result ≡ free_in_row marks.now (side_from on (side_of x.now)) cut.now m }
-{
-    is_free_on(marks, x, on, m) & side::inside(cut, m)
-}
+    // Whether it has a pin on a net that X cuts too.
+    fn is_free_in(&self, m: usize) -> bool
+        requires { m < length self.now.marks.now }
+        ensures { result ≡ free_in_row self.now.marks.now (side_from self.now.on (side_of self.now.x.now)) self.now.cut.now m }
+    {
+        self.is_free(m) & side::inside(self.cut, m)
+    }
 
-// The lowest of those.
-fn lowest_cut(marks: &[u8], x: &[u8], on: bool, cut: &[u8]) -> Option<usize>
-    requires { (bytes_for (length marks.now) ≤ length x.now) × (bytes_for (length marks.now) ≤ length cut.now) }
-    ensures { result ≡ lowest (free_in_row marks.now (side_from on (side_of x.now)) cut.now) (length marks.now) }
-{
-    (0..marks.len()).find(|&m| is_free_in(marks, x, on, cut, m))
-}
+    // The lowest of the free ones on that side.
+    fn lowest_free(&self) -> Option<usize>
+        ensures { result ≡ lowest (free_in (marks_of self.now.marks.now) (side_from self.now.on (side_of self.now.x.now))) (length self.now.marks.now) }
+    {
+        (0..self.marks.len()).find(|&m| self.is_free(m))
+    }
 
-// The module taken: the lowest free one on that side with a pin on a net that X cuts; if none has, the lowest free one on that side.
-pub fn choose(marks: &[u8], x: &[u8], on: bool, cut: &[u8]) -> Option<usize>
-    requires { (bytes_for (length marks.now) ≤ length x.now) × (bytes_for (length marks.now) ≤ length cut.now) }
-    ensures { result ≡ choice_in marks.now (side_from on (side_of x.now)) cut.now }
-{
-    lowest_cut(marks, x, on, cut).or_else(|| lowest_free(marks, x, on))
+    // The lowest of those with a pin on a net that X cuts.
+    fn lowest_cut(&self) -> Option<usize>
+        ensures { result ≡ lowest (free_in_row self.now.marks.now (side_from self.now.on (side_of self.now.x.now)) self.now.cut.now) (length self.now.marks.now) }
+    {
+        (0..self.marks.len()).find(|&m| self.is_free_in(m))
+    }
+
+    // The module taken: the lowest free one on that side with a pin on a net that X cuts; if none has, the lowest free one on that side.
+    pub fn choose(&self) -> Option<usize>
+        ensures { result ≡ choice_in self.now.marks.now (side_from self.now.on (side_of self.now.x.now)) self.now.cut.now }
+    {
+        // Tried as `or_else`: the closure over `self` promises nothing there, and the proof does not close.
+        match self.lowest_cut() {
+            Some(m) => Some(m),
+            None => self.lowest_free(),
+        }
+    }
 }
 
 // Whether module i is free, and is m or inside X (or outside it, as is asked).

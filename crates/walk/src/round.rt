@@ -10,6 +10,7 @@ ghost use Rattle.walk.specs.Walk.{choice};
 ghost use Rattle.walk.specs.Parts.{marks_of, side_from};
 ghost use Rattle.walk.specs.Work.{Loaded, Marked, taking_from, Pins, Stepped, OneRound};
 
+use crate::choose::Candidates;
 use crate::{Row, Turn, Way};
 
 // The module that a round takes inside X, or outside it, as is asked.
@@ -19,7 +20,13 @@ fn seek(book: &[u8], marks: &[u8], x: &[u8], on: bool) -> Option<usize>
 {
     let mut cut: [u8; crate::SIDE] = [0; crate::SIDE];
     crate::cut::cut_row(book, x, &mut cut);
-    crate::choose::choose(marks, x, on, &cut)
+    let from = Candidates {
+        marks,
+        x,
+        on,
+        cut: &cut,
+    };
+    from.choose()
 }
 
 // Below low: pins all of X to the meter, and one free module outside X. Above high: pins all outside X to the maker, and one free module inside X. If there is none, ends with 14.
