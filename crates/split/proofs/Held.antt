@@ -11,7 +11,7 @@ use Rattle.book.specs.Sound.{Sound}
 use Rattle.book.specs.Cards.{card_of, nets_of}
 use Rattle.side.specs.Sides.{side_of, bytes_for}
 use Rattle.side.specs.Given.{is_short}
-use Rattle.audit.specs.Rules.{LentFlow, value_sent, value_taken}
+use Rattle.audit.specs.Rules.{value_sent, value_taken}
 use Rattle.audit.proofs.Fairness.{value_to}
 use Rattle.split.specs.Solved.{Solved}
 use Rattle.split.specs.Splits.{Buffers, buffers, too_short, Holds, Room}
@@ -33,8 +33,8 @@ module _ (s : List ℕ) (h : Sound s) (near₀ far₀ near far : List ℕ) (xs :
   value_is : value_sent s xs ≡ value_taken s xs + price (nets_of s) (side_of near)
   value_is = value_to s h xs (price (nets_of s) (side_of near)) q.value
 
-  pub solved_lent : pins s ≤ length xs → LentFlow s xs × (value_taken s xs ≤ value_sent s xs)
-  solved_lent l = (record { sound = h; enough = l }, omega (arith, value_is))
+  pub solved_under : value_taken s xs ≤ value_sent s xs
+  solved_under = omega (arith, value_is)
 
   pub solved_price : (r : ℕ) → value_taken s xs + r ≡ value_sent s xs → r ≡ price (nets_of s) (side_of near)
   solved_price r e = omega (arith, value_is)

@@ -4,7 +4,12 @@ use mathlib.Core.Path.{refl}
 use native.Mathlib.Omega.{arith}
 use Rattle.book.specs.Format.{nets, pins, first_pin}
 use Rattle.book.specs.Sound.{Sound}
+use Rattle.book.specs.declared.netlist.Netlist.{Netlist}
+use Rattle.book.proofs.Netlists.{sound_of}
 use Rattle.book.proofs.CardLaws.{first_pin_mono}
+
+pub sound_netlist : (n : Netlist) → Sound n.bytes.now
+sound_netlist n = sound_of _ n.reads
 
 pub first-zero : (s : List ℕ) → 0 ≡ first_pin s 0
 unfolding first_pin

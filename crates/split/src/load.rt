@@ -2,7 +2,8 @@
 ghost use Rattle.std.specs.Prelude.{◌≡◌, ℕ, ◌+◌, ◌<◌, length, slice_get, IfSome};
 ghost use Rattle.book.specs.Format.{modules, nets, pins, mark, weight, pin, first_pin};
 ghost use Rattle.book.specs.Listed.{listed};
-ghost use Rattle.book.specs.Sound.{Sound};
+
+use book::netlist::Netlist;
 
 // Fills each place with what `at` gives for its index.
 fn fill_by<T: Copy, F: Fn(usize) -> T>(out: &mut [T], at: F)
@@ -15,39 +16,39 @@ fn fill_by<T: Copy, F: Fn(usize) -> T>(out: &mut [T], at: F)
 }
 
 // Where the pins of each net begin, and where those of the last end.
-pub fn firsts(book: &[u8], out: &mut [u16])
-    requires { Sound book.now × (length out.old ≡ nets book.now + 1) }
-    ensures { out.new ≡ listed (first_pin book.now) (nets book.now + 1) }
+pub fn firsts(netlist: Netlist<'_>, out: &mut [u16])
+    requires { length out.old ≡ nets netlist.bytes.now + 1 }
+    ensures { out.new ≡ listed (first_pin netlist.entry.bytes.now) (nets netlist.entry.bytes.now + 1) }
 {
-    let count = book::nets(book);
+    let count = netlist.nets();
     let mut sum: usize = 0;
     for n in 0..count {
         out[n] = sum as u16;
-        sum += book::pin_count(book, n);
+        sum += netlist.pin_count(n);
     }
     out[count] = sum as u16;
 }
 
 // The module of each pin.
-pub fn mods(book: &[u8], out: &mut [u16])
-    requires { Sound book.now × (length out.old ≡ pins book.now) }
-    ensures { out.new ≡ listed (pin book.now) (pins book.now) }
+pub fn mods(netlist: Netlist<'_>, out: &mut [u16])
+    requires { length out.old ≡ pins netlist.bytes.now }
+    ensures { out.new ≡ listed (pin netlist.entry.bytes.now) (pins netlist.entry.bytes.now) }
 {
-    fill_by(out, |p| book::pin(book, p) as u16);
+    fill_by(out, |p| netlist.pin(p) as u16);
 }
 
 // The weight of each net.
-pub fn weights(book: &[u8], out: &mut [u16])
-    requires { Sound book.now × (length out.old ≡ nets book.now) }
-    ensures { out.new ≡ listed (weight book.now) (nets book.now) }
+pub fn weights(netlist: Netlist<'_>, out: &mut [u16])
+    requires { length out.old ≡ nets netlist.bytes.now }
+    ensures { out.new ≡ listed (weight netlist.entry.bytes.now) (nets netlist.entry.bytes.now) }
 {
-    fill_by(out, |n| book::weight(book, n) as u16);
+    fill_by(out, |n| netlist.weight(n) as u16);
 }
 
 // The mark of each module.
-pub fn marks(book: &[u8], out: &mut [u8])
-    requires { Sound book.now × (length out.old ≡ modules book.now) }
-    ensures { out.new ≡ listed (mark book.now) (modules book.now) }
+pub fn marks(netlist: Netlist<'_>, out: &mut [u8])
+    requires { length out.old ≡ modules netlist.bytes.now }
+    ensures { out.new ≡ listed (mark netlist.entry.bytes.now) (modules netlist.entry.bytes.now) }
 {
-    fill_by(out, |m| book::mark(book, m) as u8);
+    fill_by(out, |m| netlist.mark(m) as u8);
 }

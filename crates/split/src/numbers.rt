@@ -3,10 +3,10 @@ ghost use Rattle.std.specs.Prelude.{◌≡◌, ◌+◌, ◌≤◌, take};
 ghost use Rattle.book.specs.Checks.{most_modules, most_nets, most_pins};
 ghost use Rattle.book.specs.Format.{modules, nets, pins, mark, weight, pin, first_pin};
 ghost use Rattle.book.specs.Listed.{listed};
-ghost use Rattle.book.specs.Sound.{Sound};
 
 use crate::load;
 use book::Book;
+use book::netlist::Netlist;
 
 // The arrays, and how many modules, nets and pins the book has.
 #[derive(Drop)]
@@ -24,25 +24,24 @@ pub struct Numbers {
 }
 
 impl Numbers {
-    // Those of a sound book.
-    pub fn of(book: &[u8]) -> Numbers
-        requires { Sound book.now }
-        ensures first { take (result.nets + 1) result.first ≡ listed (first_pin book.now) (nets book.now + 1) }
-        ensures mods { take result.pins result.mods ≡ listed (pin book.now) (pins book.now) }
-        ensures weight { take result.nets result.weight ≡ listed (weight book.now) (nets book.now) }
-        ensures mark { take result.modules result.mark ≡ listed (mark book.now) (modules book.now) }
+    // Those of a book that reads.
+    pub fn of(netlist: Netlist<'_>) -> Numbers
+        ensures first { take (result.nets + 1) result.first ≡ listed (first_pin netlist.entry.bytes.now) (nets netlist.entry.bytes.now + 1) }
+        ensures mods { take result.pins result.mods ≡ listed (pin netlist.entry.bytes.now) (pins netlist.entry.bytes.now) }
+        ensures weight { take result.nets result.weight ≡ listed (weight netlist.entry.bytes.now) (nets netlist.entry.bytes.now) }
+        ensures mark { take result.modules result.mark ≡ listed (mark netlist.entry.bytes.now) (modules netlist.entry.bytes.now) }
     {
-        let modules = book::modules(book);
-        let nets = book::nets(book);
-        let pins = book::pins(book);
+        let modules = netlist.modules();
+        let nets = netlist.nets();
+        let pins = netlist.pins();
         let mut first = [0; Book::NETS + 1];
-        load::firsts(book, &mut first[..nets + 1]);
+        load::firsts(netlist, &mut first[..nets + 1]);
         let mut mods = [0; Book::PINS];
-        load::mods(book, &mut mods[..pins]);
+        load::mods(netlist, &mut mods[..pins]);
         let mut weight = [0; Book::NETS];
-        load::weights(book, &mut weight[..nets]);
+        load::weights(netlist, &mut weight[..nets]);
         let mut mark = [0; Book::MODULES];
-        load::marks(book, &mut mark[..modules]);
+        load::marks(netlist, &mut mark[..modules]);
         Numbers {
             first,
             mods,

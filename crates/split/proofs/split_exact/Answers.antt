@@ -1,15 +1,14 @@
 use Rattle.split.proofs.Loaded.{slices_loaded, begins_loaded, solved_loaded}
-use Rattle.split.proofs.Held.{solved_lent, solved_price}
+use Rattle.split.proofs.Held.{solved_under, solved_price}
 use Rattle.book.specs.Cards.{card_of}
 use Rattle.split.specs.Solved.{Solved}
 use mathlib.Core.Path.{◌∙◌}
-use native.Mathlib.Omega.{arith}
 use Rattle.split.proofs.split_exact.Goals as goal
 use Rattle.split.proofs.split_exact.Goals.{After-solve}
 
 pub solve-requires : goal.solve-requires
 solve-requires c =
-    let s = c.args.book.now in
+    let s = c.args.netlist.bytes.now in
     let p = c.requires.0 in
     let n = c.of-numbers.ensures in
     let mods = c.mods.ensures ∙ n.mods in
@@ -19,13 +18,13 @@ solve-requires c =
     )
 
 -- what the engine made of the numbers is the split of the book
-solved : (c : After-solve) → Solved (card_of c.args.book.now) c.args.near.now c.args.far.now c.solve.new.near c.solve.new.far c.solve.new.flow
+solved : (c : After-solve) → Solved (card_of c.args.netlist.bytes.now) c.args.near.now c.args.far.now c.solve.new.near c.solve.new.far c.solve.new.flow
 solved c =
     let n = c.of-numbers.ensures in
-    solved_loaded c.args.book.now c.requires.0.sound _ _ _ _ _ _ _ _ _ (c.first.ensures ∙ n.first) (c.mods.ensures ∙ n.mods) (c.weight.ensures ∙ n.weight) (c.mark.ensures ∙ n.mark) c.solve.ensures
+    solved_loaded c.args.netlist.bytes.now c.requires.0.sound _ _ _ _ _ _ _ _ _ (c.first.ensures ∙ n.first) (c.mods.ensures ∙ n.mods) (c.weight.ensures ∙ n.weight) (c.mark.ensures ∙ n.mark) c.solve.ensures
 
-pub value_of-requires : goal.value_of-requires
-value_of-requires c = solved_lent c.args.book.now c.requires.0.sound _ _ _ _ _ (solved (goal.at.value_of-requires c).After-solve) (omega (arith, c.solve.auto.flow, c.still.auto.flow, c.requires.1))
+pub value-requires : goal.value-requires
+value-requires c = solved_under c.args.netlist.bytes.now c.requires.0.sound _ _ _ _ _ (solved (goal.at.value-requires c).After-solve)
 
 pub returns : goal.returns
-returns c = let q = solved (goal.at.returns c).After-solve in (q, solved_price c.args.book.now c.requires.0.sound _ _ _ _ _ q _ c.value_of.ensures)
+returns c = let q = solved (goal.at.returns c).After-solve in (q, solved_price c.args.netlist.bytes.now c.requires.0.sound _ _ _ _ _ q _ c.value.ensures)

@@ -5,4 +5,4 @@ use Rattle.split.proofs.load.firsts.Given as goal
 
 abbrev pub invariant-loop-n : goal.invariant-loop-n
 invariant-loop-n l =
-    (l.sum ≡ first_pin l.book l.n) × (take l.n l.out ≡ listed (first_pin l.book) l.n)
+    (l.sum ≡ first_pin l.netlist.bytes.now l.n) × (take l.n l.out ≡ listed (first_pin l.netlist.bytes.now) l.n)

@@ -5,4 +5,4 @@ use borrow.Author.Rules.{rules}
 use Rattle.split.proofs.load.marks.Goals as goal
 
 pub returns : goal.returns
-returns c = filled_by (mark c.args.book.now) _ _ _ (λ i x h. search rules) c.fill_by.ensures (c.fill_by.auto.out ∙ c.requires.1)
+returns c = filled_by (mark c.args.netlist.bytes.now) _ _ _ (λ i x h. search rules) c.fill_by.ensures (c.fill_by.auto.out ∙ c.requires)
