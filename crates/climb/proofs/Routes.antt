@@ -14,62 +14,64 @@ use Rattle.line.proofs.Index.{net_at, start}
 use Rattle.line.proofs.Path.{pin_of}
 use Rattle.line.proofs.Tree.{Twig, Tree, walk_sound, walk_pairwise, walk_leads}
 use Rattle.flow.specs.Search.{In, rank, left, kind, entered}
-use Rattle.flow.specs.Cards.{card_of, Grid, side_of, up_of}
+use Rattle.flow.specs.Cards.{Grid, side_of, up_of}
+use Rattle.flow.specs.declared.board.Board.{Board}
+use Rattle.flow.specs.Board.{board_card}
 use Rattle.flow.specs.Push.{Trail, Level}
 use Rattle.flow.specs.Raise.{Field, Route, Steady, MayCarry, Carried}
+use Rattle.flow.proofs.BoardLaws.{tables_of, heavy_of}
 use Rattle.flow.proofs.CardLaws.{Made, card_made, card_valid, card_modules, card_mark, grid_of}
 use Rattle.flow.proofs.TreeLaws.{rank_of, no_eqb, pin_global}
 use Rattle.flow.proofs.RaiseLaws.{level_of}
-use Rattle.climb.specs.Climb.{Lay, Thread}
+use Rattle.climb.specs.Climb.{Guided, Thread}
 use Rattle.climb.proofs.Threads.{tip_below}
 
 -- the pin from which the room of net e is used: the one that the module it leads to was reached from
 abbrev opener_of : Card → List ℕ → List ℕ → ℕ → ℕ
 opener_of c w sn e = left (get_or w (get_or sn e 0 - 1) 0) - start c.nets e
 
-module _ (fs ms ws nt at pl mk : List ℕ) (lay : Lay fs ms ws nt at pl mk) (heavy : (e : ℕ) → e < length ws → get_or ws e 0 ≤ 65535) (w sn : List ℕ) (z : ℕ)
-    (t : Thread ms nt mk w sn (length ws) z) where
+module _ (board : Board) (fit : Guided board) {w sn : List ℕ} {z : ℕ} (t : Thread board.mods.now board.nets.now board.mark.now w sn (length board.weight.now) z) where
   abbrev c : Card
-  c = card_of fs ms ws mk
+  c = board_card board
 
-  made : Made (card_of fs ms ws mk) fs ms ws
-  made = card_made fs ms ws mk lay.laid
+  made : Made (board_card board) board.first.now board.mods.now board.weight.now
+  made = card_made board.first.now board.mods.now board.weight.now board.mark.now fit.laid
 
-  grid : Grid (card_of fs ms ws mk) ms nt
-  grid = grid_of (card_of fs ms ws mk) fs ms ws nt at pl (length mk) made lay.tables
+  grid : Grid (board_card board) board.mods.now board.nets.now
+  grid = grid_of (board_card board) board.first.now board.mods.now board.weight.now board.nets.now board.at.now board.pins.now (length board.mark.now) made (tables_of board)
 
-  valid : Valid (card_of fs ms ws mk)
-  valid = card_valid fs ms ws mk lay.laid
+  valid : Valid (board_card board)
+  valid = card_valid board.first.now board.mods.now board.weight.now board.mark.now fit.laid
 
-  thread_field : Field (card_of fs ms ws mk) ms ws nt mk w
+  thread_field : Field (board_card board) board.mods.now board.weight.now board.nets.now board.mark.now w
   thread_field = record {
     ground = record {
       grid = grid;
-      trail = subst (Trail ms nt mk w) (sym made.nets) t.trail;
+      trail = subst (Trail board.mods.now board.nets.now board.mark.now w) (sym made.nets) t.trail;
       valid = valid;
-      modules = card_modules fs ms ws mk lay.laid;
-      mark = card_mark fs ms ws mk lay.laid;
-      weights = λ e l. let l' : e < length ws = omega (arith, made.nets) in omega (arith, heavy e l', made.weight e l');
+      modules = card_modules board.first.now board.mods.now board.weight.now board.mark.now fit.laid;
+      mark = card_mark board.first.now board.mods.now board.weight.now board.mark.now fit.laid;
+      weights = λ e l. let l' : e < length board.weight.now = omega (arith, made.nets) in omega (arith, heavy_of board e l', made.weight e l');
     };
     nets = made.nets;
     weight = made.weight;
   }
 
   -- the module of a pin, by the numbers of the card
-  pin_module : (e a : ℕ) → a < length ms → get_or nt a 0 ≡ e → (a - start c.nets e < length (net_at c.nets e).pins) × (pin_of c e (a - start c.nets e) ≡ get_or ms a 0)
+  pin_module : (e a : ℕ) → a < length board.mods.now → get_or board.nets.now a 0 ≡ e → (a - start c.nets e < length (net_at c.nets e).pins) × (pin_of c e (a - start c.nets e) ≡ get_or board.mods.now a 0)
   pin_module e a l q =
-      let s : start c.nets (get_or nt a 0) ≡ start c.nets e = ap (start c.nets) q in
-      let k : length (net_at c.nets (get_or nt a 0)).pins ≡ length (net_at c.nets e).pins = ap (λ (n : ℕ). length (net_at c.nets n).pins) q in
+      let s : start c.nets (get_or board.nets.now a 0) ≡ start c.nets e = ap (start c.nets) q in
+      let k : length (net_at c.nets (get_or board.nets.now a 0)).pins ≡ length (net_at c.nets e).pins = ap (λ (n : ℕ). length (net_at c.nets n).pins) q in
       let low = grid.low a l in
       let high = grid.high a l in
       let i : a - start c.nets e < length (net_at c.nets e).pins = omega arith in
       let at : start c.nets e + (a - start c.nets e) ≡ a = omega arith in
-      (i, pin_global c ms grid.pins e (a - start c.nets e) (omega (arith, grid.net a l, q)) i ∙ ap (λ (j : ℕ). get_or ms j 0) at)
+      (i, pin_global c board.mods.now grid.pins e (a - start c.nets e) (omega (arith, grid.net a l, q)) i ∙ ap (λ (j : ℕ). get_or board.mods.now j 0) at)
 
-  twig : (m : ℕ) → In w m → get_or mk m 0 ≢ 1 → Twig plainly c (rank_of w) (opener_of c w sn) (side_of w) m (up_of c nt w m)
+  twig : (m : ℕ) → In w m → get_or board.mark.now m 0 ≢ 1 → Twig plainly c (rank_of w) (opener_of c w sn) (side_of w) m (up_of c board.nets.now w m)
   twig m i n =
       let x = get_or w m 0 in
-      let e = get_or nt (left x) 0 in
+      let e = get_or board.nets.now (left x) 0 in
       let k = t.trail.step m i n in
       let a = pin_module e (left x) k.in_left refl in
       let b = pin_module e (entered x) k.in_entered k.same in
@@ -83,38 +85,38 @@ module _ (fs ms ws nt at pl mk : List ℕ) (lay : Lay fs ms ws nt at pl mk) (hea
           takes = λ _. tt;
         };
         to = to;
-        from = subst (λ (j : ℕ). T (side_of w j)) (sym a.1) (lt→ltb 0 (get_or w (get_or ms (left x) 0) 0) k.from);
+        from = subst (λ (j : ℕ). T (side_of w j)) (sym a.1) (lt→ltb 0 (get_or w (get_or board.mods.now (left x) 0) 0) k.from);
         lower = subst (λ (j : ℕ). rank_of w j < rank x) (sym a.1) k.lower;
         opened = λ p q. opened (t.small m i n) (no_eqb (kind x) 1 p) (no_eqb (kind x) 2 q);
       }
     where
-      opened : kind (get_or w m 0) ≤ 2 → kind (get_or w m 0) ≢ 1 → kind (get_or w m 0) ≢ 2 → left (get_or w m 0) - start c.nets (get_or nt (left (get_or w m 0)) 0) ≡ opener_of c w sn (get_or nt (left (get_or w m 0)) 0)
+      opened : kind (get_or w m 0) ≤ 2 → kind (get_or w m 0) ≢ 1 → kind (get_or w m 0) ≢ 2 → left (get_or w m 0) - start c.nets (get_or board.nets.now (left (get_or w m 0)) 0) ≡ opener_of c w sn (get_or board.nets.now (left (get_or w m 0)) 0)
       opened l p q =
           let o = t.opens m i n (omega arith) in
-          let one : m ≡ get_or sn (get_or nt (left (get_or w m 0)) 0) 0 - 1 = omega arith in
-          ap (λ (j : ℕ). left (get_or w j 0) - start c.nets (get_or nt (left (get_or w m 0)) 0)) one
+          let one : m ≡ get_or sn (get_or board.nets.now (left (get_or w m 0)) 0) 0 - 1 = omega arith in
+          ap (λ (j : ℕ). left (get_or w j 0) - start c.nets (get_or board.nets.now (left (get_or w m 0)) 0)) one
 
-  tree : Tree plainly c (rank_of w) (opener_of c w sn) (up_of c nt w) (side_of w)
-  tree m l s n = twig m (ltb→lt 0 (get_or w m 0) s) (λ e. n (card_mark fs ms ws mk lay.laid m ∙ e))
+  tree : Tree plainly c (rank_of w) (opener_of c w sn) (up_of c board.nets.now w) (side_of w)
+  tree m l s n = twig m (ltb→lt 0 (get_or w m 0) s) (λ e. n (card_mark board.first.now board.mods.now board.weight.now board.mark.now fit.laid m ∙ e))
 
-  thread_route : get_or mk z 0 ≡ 2 → Route (card_of fs ms ws mk) nt mk w z
+  thread_route : get_or board.mark.now z 0 ≡ 2 → Route (board_card board) board.nets.now board.mark.now w z
   thread_route e =
-      let low : z < c.modules = omega (arith, card_modules fs ms ws mk lay.laid, tip_below t) in
+      let low : z < c.modules = omega (arith, card_modules board.first.now board.mods.now board.weight.now board.mark.now fit.laid, tip_below t) in
       let in_side : T (side_of w z) = lt→ltb 0 (get_or w z 0) t.tip in record {
         from = t.tip;
-        maker = card_mark fs ms ws mk lay.laid z ∙ e;
-        sound = walk_sound plainly c valid (rank_of w) (opener_of c w sn) (up_of c nt w) (side_of w) tree (suc (length mk)) z low in_side;
-        apart = walk_pairwise plainly c valid (rank_of w) (opener_of c w sn) (up_of c nt w) (side_of w) tree (suc (length mk)) z low in_side;
-        leads = walk_leads plainly c valid (rank_of w) (opener_of c w sn) (up_of c nt w) (side_of w) tree (suc (length mk)) z low in_side (omega (arith, t.trail.ranks z t.tip));
+        maker = card_mark board.first.now board.mods.now board.weight.now board.mark.now fit.laid z ∙ e;
+        sound = walk_sound plainly c valid (rank_of w) (opener_of c w sn) (up_of c board.nets.now w) (side_of w) tree (suc (length board.mark.now)) z low in_side;
+        apart = walk_pairwise plainly c valid (rank_of w) (opener_of c w sn) (up_of c board.nets.now w) (side_of w) tree (suc (length board.mark.now)) z low in_side;
+        leads = walk_leads plainly c valid (rank_of w) (opener_of c w sn) (up_of c board.nets.now w) (side_of w) tree (suc (length board.mark.now)) z low in_side (omega (arith, t.trail.ranks z t.tip));
       }
 
-  pub thread_level : (sm : List ℕ) (fl : List ℤ) → Steady (card_of fs ms ws mk) ms sm fl → Level ms ws sm fl
-  thread_level = level_of c ms ws nt mk w thread_field
+  pub thread_level : (sm : List ℕ) (fl : List ℤ) → Steady (board_card board) board.mods.now sm fl → Level board.mods.now board.weight.now sm fl
+  thread_level = level_of c board.mods.now board.weight.now board.nets.now board.mark.now w thread_field
 
   -- from a maker what the way carries can be pushed, and the flow stays fair
-  module _ (sm : List ℕ) (fl : List ℤ) (s : Steady (card_of fs ms ws mk) ms sm fl) (maker : get_or mk z 0 ≡ 2) where
-    pub thread_carries : MayCarry ms ws nt mk w sm fl z
+  module _ (sm : List ℕ) (fl : List ℤ) (s : Steady (board_card board) board.mods.now sm fl) (maker : get_or board.mark.now z 0 ≡ 2) where
+    pub thread_carries : MayCarry board.mods.now board.weight.now board.nets.now board.mark.now w sm fl z
     thread_carries = (c, thread_field, thread_route maker, s)
 
-    pub thread_carried : {sm' : List ℕ} {fl' : List ℤ} → Carried ms ws nt mk w sm fl z sm' fl' → Steady (card_of fs ms ws mk) ms sm' fl'
+    pub thread_carried : {sm' : List ℕ} {fl' : List ℤ} → Carried board.mods.now board.weight.now board.nets.now board.mark.now w sm fl z sm' fl' → Steady (board_card board) board.mods.now sm' fl'
     thread_carried k = (k c thread_field (thread_route maker) s).0.steady

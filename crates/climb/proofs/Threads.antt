@@ -11,17 +11,10 @@ use lib.ListN.{length, get_or, set, length-set}
 use lib.Seq.{get_or-set_same, get_or-set_other}
 use Rattle.flow.specs.Search.{In, rank, left, kind, entered}
 use Rattle.flow.specs.Push.{Trod}
+use Rattle.flow.specs.declared.board.Board.{Board}
+use Rattle.flow.proofs.BoardLaws.{tables_of}
 use Rattle.flow.proofs.Sets.{in_eq, in_set_here, set_in, in_length}
-use Rattle.climb.specs.Climb.{Lay, Named, Onward, Empty, Thread}
-
--- ---- what the pins name
-
-module _ (fs ms ws nt at pl mk : List ℕ) (lay : Lay fs ms ws nt at pl mk) where
-  pub lay_mods : Named ms (length mk)
-  lay_mods = lay.laid.below
-
-  pub lay_nets : Named nt (length ws)
-  lay_nets p l = (lay.tables.net p (omega (arith, lay.tables.counts))).0
+use Rattle.climb.specs.Climb.{Named, Onward, Empty, Thread}
 
 -- ---- a list with one place set
 
@@ -59,23 +52,22 @@ module _ (ms nt : List ℕ) (N : ℕ) where
 
 -- ---- the way begins at a meter
 
-module _ (fs ms ws nt at pl mk : List ℕ) (lay : Lay fs ms ws nt at pl mk) (w sn : List ℕ) (s x : ℕ) (none : Empty w) (lenw : length w ≡ length mk) (ls : s < length mk)
-    (meter : get_or mk s 0 ≡ 1) (one : rank x ≡ 1) where
+module _ (b : Board) (w sn : List ℕ) (s x : ℕ) (none : Empty w) (lenw : length w ≡ length b.mark.now) (ls : s < length b.mark.now) (meter : get_or b.mark.now s 0 ≡ 1) (one : rank x ≡ 1) where
   only : (m : ℕ) → In (set w s x) m → m ≡ s
   only m i = ⊎_elim (λ e. e) (λ h. absurd (none m h)) (set_in w s x m i)
 
   ranks : (m : ℕ) → In (set w s x) m → rank (get_or (set w s x) m 0) ≡ 1
   ranks m i = ap (λ (k : ℕ). rank (get_or (set w s x) k 0)) (only m i) ∙ ap rank (get_or-set_same w s x 0 (omega arith)) ∙ one
 
-  meters : (m : ℕ) → In (set w s x) m → get_or mk m 0 ≡ 1
-  meters m i = ap (λ (k : ℕ). get_or mk k 0) (only m i) ∙ meter
+  meters : (m : ℕ) → In (set w s x) m → get_or b.mark.now m 0 ≡ 1
+  meters m i = ap (λ (k : ℕ). get_or b.mark.now k 0) (only m i) ∙ meter
 
-  pub thread_start : Thread ms nt mk (set w s x) sn (length ws) s
+  pub thread_start : Thread b.mods.now b.nets.now b.mark.now (set w s x) sn (length b.weight.now) s
   thread_start = record {
     trail = record {
       lenw = length-set w s x ∙ lenw;
-      nts = lay.tables.counts;
-      few = lay.few_pins;
+      nts = (tables_of b).counts;
+      few = b.few;
       ranks = λ m i. omega (arith, ranks m i);
       step = λ m i n. absurd (n (meters m i));
     };

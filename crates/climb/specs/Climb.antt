@@ -4,6 +4,7 @@ use Rattle.std.specs.Prelude.{◌≡◌, ◌≢◌, Bool, true, List, ℕ, suc, 
 use Rattle.flow.specs.Search.{In, rank, left, kind, entered, Pin, Tables}
 use Rattle.flow.specs.Cards.{Laid}
 use Rattle.flow.specs.Push.{Trail}
+use Rattle.flow.specs.declared.board.Board.{Board}
 
 -- the arrays of a card and its tables
 pub record Lay (fs ms ws nt at pl mk : List ℕ) : Type 0 where
@@ -12,6 +13,12 @@ pub record Lay (fs ms ws nt at pl mk : List ℕ) : Type 0 where
   pub few_pins : length ms < 16384
   pub few_modules : length mk ≤ 256
   pub few_nets : length ws ≤ 512
+
+-- what the climb asks of a board: its arrays are those of a card, and a guide has room for it. With what a board holds that is all of `Lay`.
+pub record Guided (b : Board) : Type 0 where
+  pub laid : Laid b.first.now b.mods.now b.weight.now b.mark.now
+  pub few_modules : length b.mark.now ≤ 256
+  pub few_nets : length b.weight.now ≤ 512
 
 -- every pin names one of M modules, or of M nets
 abbrev pub Named : List ℕ → ℕ → Type 0

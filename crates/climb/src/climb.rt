@@ -1,9 +1,10 @@
 ghost use Rattle.std.specs.Prelude.{◌≡◌, ◌≤◌, ◌<◌, length, get_or};
 ghost use Rattle.line.specs.Flow.{Fair};
-ghost use Rattle.flow.specs.Cards.{card_of};
+ghost use Rattle.flow.specs.Board.{board_card};
 ghost use Rattle.flow.specs.Raise.{Steady};
-ghost use Rattle.climb.specs.Climb.{Lay, Empty, Sized};
+ghost use Rattle.climb.specs.Climb.{Guided, Empty, Sized};
 
+use flow::board::Board;
 use reach::{Card, FAR, Flow, Guide, Rows};
 
 // How many steps a meter is given, forth and back, before the distances are looked at anew.
@@ -11,13 +12,7 @@ const TRIES: usize = 65536;
 
 // Ways from the meter s, each as far down as it goes; a module with no step onward is tried no more.
 fn try_meter(
-    first: &[u16],
-    mods: &[u16],
-    weight: &[u16],
-    nets: &[u16],
-    at: &[u16],
-    pins: &[u16],
-    mark: &[u8],
+    board: &Board<'_>,
     s: usize,
     how: &mut [u64],
     seen: &mut [u16],
@@ -26,66 +21,36 @@ fn try_meter(
     sums: &mut [u32],
     flow: &mut [i32],
 )
-    requires { Lay first.now mods.now weight.now nets.now at.now pins.now mark.now × Steady (card_of first.now mods.now weight.now mark.now) mods.now sums.old flow.old × Sized mark.now weight.now how.old seen.old × Empty how.old × (s < length mark.now) × (get_or mark.now s 0 ≡ 1) }
-    ensures { Steady (card_of first.now mods.now weight.now mark.now) mods.now sums.new flow.new × Empty how.new }
+    requires { Guided board.now × Steady (board_card board.now) board.now.mods.now sums.old flow.old × Sized board.now.mark.now board.now.weight.now how.old seen.old × Empty how.old × (s < length board.now.mark.now) × (get_or board.now.mark.now s 0 ≡ 1) }
+    ensures { Steady (board_card board.now) board.now.mods.now sums.new flow.new × Empty how.new }
 {
     how[s] = flow::search::pack(1, 0, 0);
     let mut u = s;
     for _ in 0..TRIES {
-        let step = crate::onward::onward(
-            first,
-            mods,
-            weight,
-            nets,
-            at,
-            pins,
-            mark,
-            &*sums,
-            &*flow,
-            &*how,
-            &*seen,
-            u,
-            &mut *guide,
-        );
+        let step = crate::onward::onward(board, &*sums, &*flow, &*how, &*seen, u, &mut *guide);
         if let Some(x) = step {
-            rows.touch(nets, flow::push::left_pin(x));
-            u = crate::ways::enter(mods, nets, mark, weight.len(), u, x, &mut *how, &mut *seen);
-            if mark[u] == 2 {
+            rows.touch(board.nets, flow::push::left_pin(x));
+            u = crate::ways::enter(board, u, x, &mut *how, &mut *seen);
+            if board.mark[u] == 2 {
                 u = crate::ways::deliver(
-                    first, mods, weight, nets, at, pins, mark, &*guide, u, &mut *how, &mut *seen,
-                    &mut *rows, &mut *sums, &mut *flow,
+                    board, &*guide, u, &mut *how, &mut *seen, &mut *rows, &mut *sums, &mut *flow,
                 );
             }
         } else {
             guide.far[u] = FAR;
-            if mark[u] == 1 {
+            if board.mark[u] == 1 {
                 break;
             }
-            u = crate::ways::leave(mods, nets, mark, weight.len(), u, &mut *how, &mut *seen);
+            u = crate::ways::leave(board, u, &mut *how, &mut *seen);
         }
     }
-    let end = crate::ways::back(
-        mods,
-        nets,
-        mark,
-        weight.len(),
-        u,
-        None,
-        &mut *how,
-        &mut *seen,
-    );
+    let end = crate::ways::back(board, u, None, &mut *how, &mut *seen);
     how[end] = 0;
 }
 
 // Ways from every meter that can reach a maker.
 fn try_all(
-    first: &[u16],
-    mods: &[u16],
-    weight: &[u16],
-    nets: &[u16],
-    at: &[u16],
-    pins: &[u16],
-    mark: &[u8],
+    board: &Board<'_>,
     how: &mut [u64],
     seen: &mut [u16],
     guide: &mut Guide,
@@ -93,19 +58,13 @@ fn try_all(
     sums: &mut [u32],
     flow: &mut [i32],
 )
-    requires { Lay first.now mods.now weight.now nets.now at.now pins.now mark.now × Steady (card_of first.now mods.now weight.now mark.now) mods.now sums.old flow.old × Sized mark.now weight.now how.old seen.old × Empty how.old }
-    ensures { Steady (card_of first.now mods.now weight.now mark.now) mods.now sums.new flow.new × Empty how.new }
+    requires { Guided board.now × Steady (board_card board.now) board.now.mods.now sums.old flow.old × Sized board.now.mark.now board.now.weight.now how.old seen.old × Empty how.old }
+    ensures { Steady (board_card board.now) board.now.mods.now sums.new flow.new × Empty how.new }
 {
-    for s in 0..mark.len() {
-        if (mark[s] == 1) & (guide.far[s] != FAR) {
+    for s in 0..board.mark.len() {
+        if (board.mark[s] == 1) & (guide.far[s] != FAR) {
             try_meter(
-                first,
-                mods,
-                weight,
-                nets,
-                at,
-                pins,
-                mark,
+                board,
                 s,
                 &mut *how,
                 &mut *seen,
@@ -119,14 +78,8 @@ fn try_all(
 }
 
 // Rounds of a look and of ways down to the makers, until no meter can reach a maker; a round a module at most.
-fn climb_on<'a>(
-    first: &'a [u16],
-    mods: &'a [u16],
-    weight: &'a [u16],
-    nets: &[u16],
-    at: &[u16],
-    pins: &[u16],
-    mark: &[u8],
+fn climb_on(
+    board: &Board<'_>,
     how: &mut [u64],
     seen: &mut [u16],
     guide: &mut Guide,
@@ -134,15 +87,15 @@ fn climb_on<'a>(
     sums: &mut [u32],
     flow: &mut [i32],
 )
-    requires { Lay first.now mods.now weight.now nets.now at.now pins.now mark.now × Steady (card_of first.now mods.now weight.now mark.now) mods.now sums.old flow.old × Sized mark.now weight.now how.old seen.old × Empty how.old }
-    ensures { Fair (card_of first.now mods.now weight.now mark.now) flow.new }
+    requires { Guided board.now × Steady (board_card board.now) board.now.mods.now sums.old flow.old × Sized board.now.mark.now board.now.weight.now how.old seen.old × Empty how.old }
+    ensures { Fair (board_card board.now) flow.new }
 {
     let card = Card {
-        first,
-        mods,
-        weight,
+        first: board.first,
+        mods: board.mods,
+        weight: board.weight,
     };
-    for _ in 0..mark.len() {
+    for _ in 0..board.mark.len() {
         let now = Flow {
             card,
             sums: &*sums,
@@ -153,13 +106,7 @@ fn climb_on<'a>(
         }
         seen.fill(0);
         try_all(
-            first,
-            mods,
-            weight,
-            nets,
-            at,
-            pins,
-            mark,
+            board,
             &mut *how,
             &mut *seen,
             &mut *guide,
@@ -171,33 +118,25 @@ fn climb_on<'a>(
 }
 
 // From any fair flow to a fair one, in lent work; the guide and its rows are its own.
-pub fn climb<'a>(
-    first: &'a [u16],
-    mods: &'a [u16],
-    weight: &'a [u16],
-    nets: &[u16],
-    at: &[u16],
-    pins: &[u16],
-    mark: &[u8],
+pub fn climb(
+    board: &Board<'_>,
     how: &mut [u64],
     seen: &mut [u16],
     sums: &mut [u32],
     flow: &mut [i32],
 )
-    requires { Lay first.now mods.now weight.now nets.now at.now pins.now mark.now × Sized mark.now weight.now how.old seen.old × (length sums.old ≡ length weight.now) × Fair (card_of first.now mods.now weight.now mark.now) flow.old × (length flow.old ≡ length mods.now) }
-    ensures { Fair (card_of first.now mods.now weight.now mark.now) flow.new }
+    requires { Guided board.now × Sized board.now.mark.now board.now.weight.now how.old seen.old × (length sums.old ≡ length board.now.weight.now) × Fair (board_card board.now) flow.old × (length flow.old ≡ length board.now.mods.now) }
+    ensures { Fair (board_card board.now) flow.new }
 {
     let card = Card {
-        first,
-        mods,
-        weight,
+        first: board.first,
+        mods: board.mods,
+        weight: board.weight,
     };
     let mut guide = Guide::NEW;
     let mut rows = Rows::EMPTY;
-    flow::engine::net_sums(first, &*flow, &mut *sums);
+    flow::engine::net_sums(board.first, &*flow, &mut *sums);
     how.fill(0);
-    rows.begin(card, mark, &*sums);
-    climb_on(
-        first, mods, weight, nets, at, pins, mark, how, seen, &mut guide, &mut rows, sums, flow,
-    );
+    rows.begin(card, board.mark, &*sums);
+    climb_on(board, how, seen, &mut guide, &mut rows, sums, flow);
 }

@@ -3,8 +3,9 @@ ghost use Rattle.std.specs.Prelude.{◌≡◌, ◌≢◌, false, suc, ◌+◌, �
 ghost use Rattle.flow.specs.Search.{In, rank, left};
 ghost use Rattle.flow.specs.Push.{Trail, Level};
 ghost use Rattle.flow.specs.Kinds.{number_of};
-ghost use Rattle.climb.specs.Climb.{Lay, Named, Entry, Onward, Instead};
+ghost use Rattle.climb.specs.Climb.{Guided, Entry, Onward, Instead};
 
+use flow::board::Board;
 use flow::kind::Kind;
 use reach::Guide;
 
@@ -51,22 +52,15 @@ fn rank_after(x: u64) -> usize
 }
 
 // The first step into the pins lo .. hi, as one number, if there is one.
-fn entry(
-    mods: &[u16],
-    mark: &[u8],
-    flow: &[i32],
-    how: &[u64],
-    guide: &Guide,
-    look: Look,
-) -> Option<u64>
-    requires { (look.hi ≤ length mods.now) × (length mods.now < 16384) × (length flow.now ≡ length mods.now) × Named mods.now (length mark.now) × (length how.now ≡ length mark.now) × (length mark.now ≤ 256) × (look.rank < 65536) × (look.a < 16384) }
-    ensures { IfSome result (λ x. Entry mods.now mark.now how.now look.lo look.hi look.free look.rank look.a x) }
+fn entry(board: &Board<'_>, flow: &[i32], how: &[u64], guide: &Guide, look: Look) -> Option<u64>
+    requires { (look.hi ≤ length board.now.mods.now) × (length flow.now ≡ length board.now.mods.now) × (length how.now ≡ length board.now.mark.now) × (length board.now.mark.now ≤ 256) × (look.rank < 65536) × (look.a < 16384) }
+    ensures { IfSome result (λ x. Entry board.now.mods.now board.now.mark.now how.now look.lo look.hi look.free look.rank look.a x) }
 {
     for i in look.lo..look.hi {
-        let m = usize::from(mods[i]);
+        let m = usize::from(board.mods[i]);
         if guide.far[m] == look.lower {
             let f = flow[i];
-            if (look.takes | look.free | (f > 0)) & (how[m] == 0) & (mark[m] != 1) {
+            if (look.takes | look.free | (f > 0)) & (how[m] == 0) & (board.mark[m] != 1) {
                 let kind = kind_to(look.takes, f > 0);
                 let from = flow::search::pack_from(look.a, kind);
                 return Some(flow::search::pack(look.rank, from, i));
@@ -78,13 +72,7 @@ fn entry(
 
 // The first step that leaves by pin a to the distance before d, as one number, if there is one. Only a net by which the distance d was found has one.
 fn leave_by(
-    first: &[u16],
-    mods: &[u16],
-    weight: &[u16],
-    nets: &[u16],
-    at: &[u16],
-    pins: &[u16],
-    mark: &[u8],
+    board: &Board<'_>,
     sums: &[u32],
     flow: &[i32],
     how: &[u64],
@@ -95,59 +83,59 @@ fn leave_by(
     d: u16,
     rank: usize,
 ) -> Option<u64>
-    requires { Lay first.now mods.now weight.now nets.now at.now pins.now mark.now × (length sums.now ≡ length weight.now) × (length flow.now ≡ length mods.now) × (length how.now ≡ length mark.now) × (length seen.now ≡ length weight.now) × (a < length mods.now) × (get_or mods.now a 0 ≡ u) × (rank ≤ length mark.now) × (0 < rank) × (0 < d) }
-    ensures { IfSome result (λ x. Onward mods.now nets.now mark.now how.now seen.now u rank x) }
+    requires { Guided board.now × (length sums.now ≡ length board.now.weight.now) × (length flow.now ≡ length board.now.mods.now) × (length how.now ≡ length board.now.mark.now) × (length seen.now ≡ length board.now.weight.now) × (a < length board.now.mods.now) × (get_or board.now.mods.now a 0 ≡ u) × (rank ≤ length board.now.mark.now) × (0 < rank) × (0 < d) }
+    ensures { IfSome result (λ x. Onward board.now.mods.now board.now.nets.now board.now.mark.now how.now seen.now u rank x) }
 {
     let p = usize::from(a);
-    let n = usize::from(nets[p]);
+    let n = usize::from(board.nets[p]);
     if (guide.whole[n] != d) & (guide.part[n] != d) {
         return None;
     }
-    let room = sums[n] < u32::from(weight[n]);
+    let room = sums[n] < u32::from(board.weight[n]);
     let look = Look {
-        lo: usize::from(first[n]),
-        hi: usize::from(first[n + 1]),
+        lo: usize::from(board.first[n]),
+        hi: usize::from(board.first[n + 1]),
         lower: d - 1,
         takes: flow[p] < 0,
         free: room & (seen[n] == 0),
-        rank: rank,
-        a: a,
+        rank,
+        a,
     };
-    entry(mods, mark, flow, how, guide, look)
+    entry(board, flow, how, guide, look)
 }
 
-// Of the next steps from u, by its pins lo .. hi, one that carries the most, if there is one.
+// Of the next steps from u, one that carries the most, if there is one.
 fn widest(
-    first: &[u16],
-    mods: &[u16],
-    weight: &[u16],
-    nets: &[u16],
-    at: &[u16],
-    pins: &[u16],
-    mark: &[u8],
+    board: &Board<'_>,
     sums: &[u32],
     flow: &[i32],
     how: &[u64],
     seen: &[u16],
     guide: &Guide,
     u: usize,
-    lo: usize,
-    hi: usize,
     d: u16,
     rank: usize,
 ) -> Option<u64>
-    requires { Lay first.now mods.now weight.now nets.now at.now pins.now mark.now × Level mods.now weight.now sums.now flow.now × (length how.now ≡ length mark.now) × (length seen.now ≡ length weight.now) × (u < length mark.now) × (get_or at.now u 0 ≤ lo) × (hi ≡ get_or at.now (u + 1) 0) × (rank ≤ length mark.now) × (0 < rank) × (0 < d) }
-    ensures { IfSome result (λ x. Onward mods.now nets.now mark.now how.now seen.now u rank x) }
+    requires { Guided board.now × Level board.now.mods.now board.now.weight.now sums.now flow.now × (length how.now ≡ length board.now.mark.now) × (length seen.now ≡ length board.now.weight.now) × (u < length board.now.mark.now) × (rank ≤ length board.now.mark.now) × (0 < rank) × (0 < d) }
+    ensures { IfSome result (λ x. Onward board.now.mods.now board.now.nets.now board.now.mark.now how.now seen.now u rank x) }
 {
     let mut best: Option<u64> = None;
     let mut most: u32 = 0;
-    for i in lo..hi {
+    for i in usize::from(board.at[u])..usize::from(board.at[u + 1]) {
         let step = leave_by(
-            first, mods, weight, nets, at, pins, mark, sums, flow, how, seen, guide, u, pins[i], d,
+            board,
+            sums,
+            flow,
+            how,
+            seen,
+            guide,
+            u,
+            board.pins[i],
+            d,
             rank,
         );
         if let Some(x) = step {
-            let room = flow::push::step_room(weight, nets, sums, flow, x);
+            let room = flow::push::step_room(board.weight, board.nets, sums, flow, x);
             if room > most {
                 best = step;
                 most = room;
@@ -159,13 +147,7 @@ fn widest(
 
 // The next step from u, from the pin on where the last look at u ended, if there is one. On a long way each push costs much, so there the widest step is sought.
 pub fn onward(
-    first: &[u16],
-    mods: &[u16],
-    weight: &[u16],
-    nets: &[u16],
-    at: &[u16],
-    pins: &[u16],
-    mark: &[u8],
+    board: &Board<'_>,
     sums: &[u32],
     flow: &[i32],
     how: &[u64],
@@ -173,27 +155,31 @@ pub fn onward(
     u: usize,
     guide: &mut Guide,
 ) -> Option<u64>
-    requires { Lay first.now mods.now weight.now nets.now at.now pins.now mark.now × Level mods.now weight.now sums.now flow.now × (length how.now ≡ length mark.now) × (length seen.now ≡ length weight.now) × (u < length mark.now) }
-    ensures { IfSome result (λ x. Onward mods.now nets.now mark.now how.now seen.now u (suc (rank (get_or how.now u 0))) x) }
+    requires { Guided board.now × Level board.now.mods.now board.now.weight.now sums.now flow.now × (length how.now ≡ length board.now.mark.now) × (length seen.now ≡ length board.now.weight.now) × (u < length board.now.mark.now) }
+    ensures { IfSome result (λ x. Onward board.now.mods.now board.now.nets.now board.now.mark.now how.now seen.now u (suc (rank (get_or how.now u 0))) x) }
 {
     let d = guide.far[u];
     let rank = rank_after(how[u]);
-    if (d == 0) | (rank > mark.len()) {
+    if (d == 0) | (rank > board.mark.len()) {
         return None;
     }
-    let lo = usize::from(at[u]);
-    let hi = usize::from(at[u + 1]);
     if rank + usize::from(d) > LONG {
-        return widest(
-            first, mods, weight, nets, at, pins, mark, sums, flow, how, seen, &*guide, u, lo, hi,
-            d, rank,
-        );
+        return widest(board, sums, flow, how, seen, &*guide, u, d, rank);
     }
+    let lo = usize::from(board.at[u]);
     let next = lo + usize::from(guide.own[u]);
-    for i in next..hi {
+    for i in next..usize::from(board.at[u + 1]) {
         let step = leave_by(
-            first, mods, weight, nets, at, pins, mark, sums, flow, how, seen, &*guide, u, pins[i],
-            d, rank,
+            board,
+            sums,
+            flow,
+            how,
+            seen,
+            &*guide,
+            u,
+            board.pins[i],
+            d,
+            rank,
         );
         if step.is_some() {
             guide.own[u] = (i - lo) as u16;
@@ -204,19 +190,11 @@ pub fn onward(
 }
 
 // x if the step that it tells leads to v.
-fn only_to(
-    mods: &[u16],
-    nets: &[u16],
-    mark: &[u8],
-    how: &[u64],
-    seen: &[u16],
-    v: usize,
-    x: u64,
-) -> Option<u64>
-    requires { Onward mods.now nets.now mark.now (set how.now v 0) seen.now (get_or mods.now (left (get_or how.now v 0)) 0) (rank (get_or how.now v 0)) x }
-    ensures { IfSome result (λ y. Instead mods.now nets.now mark.now how.now seen.now v y) }
+fn only_to(board: &Board<'_>, how: &[u64], seen: &[u16], v: usize, x: u64) -> Option<u64>
+    requires { Onward board.now.mods.now board.now.nets.now board.now.mark.now (set how.now v 0) seen.now (get_or board.now.mods.now (left (get_or how.now v 0)) 0) (rank (get_or how.now v 0)) x }
+    ensures { IfSome result (λ y. Instead board.now.mods.now board.now.nets.now board.now.mark.now how.now seen.now v y) }
 {
-    if usize::from(mods[flow::push::entered_pin(x)]) == v {
+    if usize::from(board.mods[flow::push::entered_pin(x)]) == v {
         Some(x)
     } else {
         None
@@ -225,13 +203,7 @@ fn only_to(
 
 // A step to the module v, which is on the way, from the module before it, in place of the one that is there; none if the widest step leads elsewhere.
 pub fn instead(
-    first: &[u16],
-    mods: &[u16],
-    weight: &[u16],
-    nets: &[u16],
-    at: &[u16],
-    pins: &[u16],
-    mark: &[u8],
+    board: &Board<'_>,
     sums: &[u32],
     flow: &[i32],
     seen: &[u16],
@@ -239,24 +211,19 @@ pub fn instead(
     v: usize,
     how: &mut [u64],
 ) -> Option<u64>
-    requires { Lay first.now mods.now weight.now nets.now at.now pins.now mark.now × Level mods.now weight.now sums.now flow.now × Trail mods.now nets.now mark.now how.old (length weight.now) × In how.old v × (get_or mark.now v 0 ≢ 1) × (0 < rank (get_or how.old v 0)) × (length seen.now ≡ length weight.now) }
+    requires { Guided board.now × Level board.now.mods.now board.now.weight.now sums.now flow.now × Trail board.now.mods.now board.now.nets.now board.now.mark.now how.old (length board.now.weight.now) × In how.old v × (get_or board.now.mark.now v 0 ≢ 1) × (0 < rank (get_or how.old v 0)) × (length seen.now ≡ length board.now.weight.now) }
     ensures kept { how.new ≡ how.old }
-    ensures step { IfSome result (λ x. Instead mods.now nets.now mark.now how.old seen.now v x) }
+    ensures step { IfSome result (λ x. Instead board.now.mods.now board.now.nets.now board.now.mark.now how.old seen.now v x) }
 {
     let old = how[v];
-    let u = usize::from(mods[flow::push::left_pin(old)]);
+    let u = usize::from(board.mods[flow::push::left_pin(old)]);
     let d = guide.far[u];
     if d == 0 {
         return None;
     }
-    let lo = usize::from(at[u]);
-    let hi = usize::from(at[u + 1]);
     let rank = rank_of(old);
     how[v] = 0;
-    let step = widest(
-        first, mods, weight, nets, at, pins, mark, sums, flow, &*how, seen, guide, u, lo, hi, d,
-        rank,
-    );
+    let step = widest(board, sums, flow, &*how, seen, guide, u, d, rank);
     how[v] = old;
-    only_to(mods, nets, mark, &*how, seen, v, step?)
+    only_to(board, &*how, seen, v, step?)
 }

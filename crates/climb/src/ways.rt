@@ -1,11 +1,12 @@
 // The way from a meter to the module reached last: one step more, one step back, and what a maker at its end takes.
 ghost use Rattle.std.specs.Prelude.{◌≡◌, ◌≢◌, suc, ◌+◌, ◌≤◌, ◌<◌, length, get_or, set, IfNone};
 ghost use Rattle.flow.specs.Search.{In, rank, left, kind, entered};
-ghost use Rattle.flow.specs.Cards.{card_of};
+ghost use Rattle.flow.specs.Board.{board_card};
 ghost use Rattle.flow.specs.Push.{Level};
 ghost use Rattle.flow.specs.Raise.{Steady};
-ghost use Rattle.climb.specs.Climb.{Lay, Named, Thread, Onward, Instead};
+ghost use Rattle.climb.specs.Climb.{Guided, Thread, Onward, Instead};
 
+use flow::board::Board;
 use flow::kind::{Kind, step_kind};
 use flow::push::{Ways, push_from};
 use reach::{Guide, Rows};
@@ -14,13 +15,13 @@ use reach::{Guide, Rows};
 const PUSHES: usize = 256;
 
 // Puts the step that x tells to the module that it leads to. The room of a net is marked with the module that it leads to.
-fn put_step(mods: &[u16], nets: &[u16], x: u64, how: &mut [u64], seen: &mut [u16]) -> usize
-    requires { (left x < length nets.now) × (entered x < length mods.now) × Named mods.now (length how.old) × Named nets.now (length seen.old) × (length how.old < 65535) }
-    ensures { (result ≡ get_or mods.now (entered x) 0) × (how.new ≡ set how.old result x) × (kind x ≡ 0 → seen.new ≡ set seen.old (get_or nets.now (left x) 0) (result + 1)) × (kind x ≢ 0 → seen.new ≡ seen.old) }
+fn put_step(board: &Board<'_>, x: u64, how: &mut [u64], seen: &mut [u16]) -> usize
+    requires { (left x < length board.now.nets.now) × (entered x < length board.now.mods.now) × (length how.old ≡ length board.now.mark.now) × (length seen.old ≡ length board.now.weight.now) × (length board.now.mark.now < 65535) }
+    ensures { (result ≡ get_or board.now.mods.now (entered x) 0) × (how.new ≡ set how.old result x) × (kind x ≡ 0 → seen.new ≡ set seen.old (get_or board.now.nets.now (left x) 0) (result + 1)) × (kind x ≢ 0 → seen.new ≡ seen.old) }
 {
-    let v = usize::from(mods[flow::push::entered_pin(x)]);
+    let v = usize::from(board.mods[flow::push::entered_pin(x)]);
     if step_kind(x) == Kind::Room {
-        let n = usize::from(nets[flow::push::left_pin(x)]);
+        let n = usize::from(board.nets[flow::push::left_pin(x)]);
         seen[n] = (v + 1) as u16;
     }
     how[v] = x;
@@ -28,81 +29,51 @@ fn put_step(mods: &[u16], nets: &[u16], x: u64, how: &mut [u64], seen: &mut [u16
 }
 
 // One step more: the module it leads to.
-pub fn enter(
-    mods: &[u16],
-    nets: &[u16],
-    mark: &[u8],
-    count: usize,
-    u: usize,
-    x: u64,
-    how: &mut [u64],
-    seen: &mut [u16],
-) -> usize
-    requires { Thread mods.now nets.now mark.now how.old seen.old count u × Onward mods.now nets.now mark.now how.old seen.old u (suc (rank (get_or how.old u 0))) x × (length seen.old ≡ count) × Named mods.now (length mark.now) × Named nets.now count × (length mark.now < 65535) }
-    ensures { Thread mods.now nets.now mark.now how.new seen.new count result }
+pub fn enter(board: &Board<'_>, u: usize, x: u64, how: &mut [u64], seen: &mut [u16]) -> usize
+    requires { Thread board.now.mods.now board.now.nets.now board.now.mark.now how.old seen.old (length board.now.weight.now) u × Onward board.now.mods.now board.now.nets.now board.now.mark.now how.old seen.old u (suc (rank (get_or how.old u 0))) x × (length seen.old ≡ length board.now.weight.now) × (length board.now.mark.now < 65535) }
+    ensures { Thread board.now.mods.now board.now.nets.now board.now.mark.now how.new seen.new (length board.now.weight.now) result }
 {
-    put_step(mods, nets, x, &mut *how, &mut *seen)
+    put_step(board, x, &mut *how, &mut *seen)
 }
 
 // The step that x tells in place of the one to v, between the same modules: the way still ends at z.
-fn swap(
-    mods: &[u16],
-    nets: &[u16],
-    mark: &[u8],
-    count: usize,
-    z: usize,
-    v: usize,
-    x: u64,
-    how: &mut [u64],
-    seen: &mut [u16],
-)
-    requires { Thread mods.now nets.now mark.now how.old seen.old count z × In how.old v × (get_or mark.now v 0 ≢ 1) × Instead mods.now nets.now mark.now how.old seen.old v x × (length seen.old ≡ count) × Named mods.now (length mark.now) × Named nets.now count × (length mark.now < 65535) }
-    ensures { Thread mods.now nets.now mark.now how.new seen.new count z }
+fn swap(board: &Board<'_>, z: usize, v: usize, x: u64, how: &mut [u64], seen: &mut [u16])
+    requires { Thread board.now.mods.now board.now.nets.now board.now.mark.now how.old seen.old (length board.now.weight.now) z × In how.old v × (get_or board.now.mark.now v 0 ≢ 1) × Instead board.now.mods.now board.now.nets.now board.now.mark.now how.old seen.old v x × (length seen.old ≡ length board.now.weight.now) × (length board.now.mark.now < 65535) }
+    ensures { Thread board.now.mods.now board.now.nets.now board.now.mark.now how.new seen.new (length board.now.weight.now) z }
 {
-    put_step(mods, nets, x, &mut *how, &mut *seen);
+    put_step(board, x, &mut *how, &mut *seen);
 }
 
 // One step back: the module before u.
-pub fn leave(
-    mods: &[u16],
-    nets: &[u16],
-    mark: &[u8],
-    count: usize,
-    u: usize,
-    how: &mut [u64],
-    seen: &mut [u16],
-) -> usize
-    requires { Thread mods.now nets.now mark.now how.old seen.old count u × (get_or mark.now u 0 ≢ 1) × (length seen.old ≡ count) }
-    ensures { Thread mods.now nets.now mark.now how.new seen.new count result × (rank (get_or how.new result 0) < rank (get_or how.old u 0)) }
+pub fn leave(board: &Board<'_>, u: usize, how: &mut [u64], seen: &mut [u16]) -> usize
+    requires { Thread board.now.mods.now board.now.nets.now board.now.mark.now how.old seen.old (length board.now.weight.now) u × (get_or board.now.mark.now u 0 ≢ 1) × (length seen.old ≡ length board.now.weight.now) }
+    ensures { Thread board.now.mods.now board.now.nets.now board.now.mark.now how.new seen.new (length board.now.weight.now) result × (rank (get_or how.new result 0) < rank (get_or how.old u 0)) }
 {
     let x = how[u];
     let a = flow::push::left_pin(x);
     if step_kind(x) == Kind::Room {
-        let n = usize::from(nets[a]);
+        let n = usize::from(board.nets[a]);
         seen[n] = 0;
     }
     how[u] = 0;
-    usize::from(mods[a])
+    usize::from(board.mods[a])
 }
 
 // Back from z to the module before `stop`, or to the meter if there is no stop or it is not on the way.
 pub fn back(
-    mods: &[u16],
-    nets: &[u16],
-    mark: &[u8],
-    count: usize,
+    board: &Board<'_>,
     z: usize,
     stop: Option<usize>,
     how: &mut [u64],
     seen: &mut [u16],
 ) -> usize
-    requires { Thread mods.now nets.now mark.now how.old seen.old count z × (length seen.old ≡ count) }
-    ensures { Thread mods.now nets.now mark.now how.new seen.new count result × IfNone stop (get_or mark.now result 0 ≡ 1) }
+    requires { Thread board.now.mods.now board.now.nets.now board.now.mark.now how.old seen.old (length board.now.weight.now) z × (length seen.old ≡ length board.now.weight.now) }
+    ensures { Thread board.now.mods.now board.now.nets.now board.now.mark.now how.new seen.new (length board.now.weight.now) result × IfNone stop (get_or board.now.mark.now result 0 ≡ 1) }
 {
     let mut u = z;
-    while mark[u] != 1 {
+    while board.mark[u] != 1 {
         let here = stop == Some(u);
-        u = leave(mods, nets, mark, count, u, &mut *how, &mut *seen);
+        u = leave(board, u, &mut *how, &mut *seen);
         if here {
             break;
         }
@@ -112,13 +83,7 @@ pub fn back(
 
 // Another step in place of the one to v, on the way to z, if the widest leads there; was it put?
 fn mend(
-    first: &[u16],
-    mods: &[u16],
-    weight: &[u16],
-    nets: &[u16],
-    at: &[u16],
-    pins: &[u16],
-    mark: &[u8],
+    board: &Board<'_>,
     guide: &Guide,
     sums: &[u32],
     flow: &[i32],
@@ -128,48 +93,24 @@ fn mend(
     seen: &mut [u16],
     rows: &mut Rows,
 ) -> bool
-    requires { Lay first.now mods.now weight.now nets.now at.now pins.now mark.now × Level mods.now weight.now sums.now flow.now × Thread mods.now nets.now mark.now how.old seen.old (length weight.now) z × (length seen.old ≡ length weight.now) }
-    ensures { Thread mods.now nets.now mark.now how.new seen.new (length weight.now) z }
+    requires { Guided board.now × Level board.now.mods.now board.now.weight.now sums.now flow.now × Thread board.now.mods.now board.now.nets.now board.now.mark.now how.old seen.old (length board.now.weight.now) z × (length seen.old ≡ length board.now.weight.now) }
+    ensures { Thread board.now.mods.now board.now.nets.now board.now.mark.now how.new seen.new (length board.now.weight.now) z }
 {
-    if v >= how.len() {
+    if v >= how.len() || how[v] == 0 || board.mark[v] == 1 {
         return false;
     }
-    if how[v] == 0 {
-        return false;
-    }
-    if mark[v] == 1 {
-        return false;
-    }
-    let step = crate::onward::instead(
-        first, mods, weight, nets, at, pins, mark, sums, flow, &*seen, guide, v, &mut *how,
-    );
+    let step = crate::onward::instead(board, sums, flow, &*seen, guide, v, &mut *how);
     let Some(x) = step else {
         return false;
     };
-    rows.touch(nets, flow::push::left_pin(x));
-    swap(
-        mods,
-        nets,
-        mark,
-        weight.len(),
-        z,
-        v,
-        x,
-        &mut *how,
-        &mut *seen,
-    );
+    rows.touch(board.nets, flow::push::left_pin(x));
+    swap(board, z, v, x, &mut *how, &mut *seen);
     true
 }
 
 // At a maker z: pushes what the way can carry. A long way that carried something is mended where it is narrow; the result is where it could not be.
 fn carry(
-    first: &[u16],
-    mods: &[u16],
-    weight: &[u16],
-    nets: &[u16],
-    at: &[u16],
-    pins: &[u16],
-    mark: &[u8],
+    board: &Board<'_>,
     guide: &Guide,
     z: usize,
     how: &mut [u64],
@@ -178,14 +119,14 @@ fn carry(
     sums: &mut [u32],
     flow: &mut [i32],
 ) -> Option<usize>
-    requires { Lay first.now mods.now weight.now nets.now at.now pins.now mark.now × Steady (card_of first.now mods.now weight.now mark.now) mods.now sums.old flow.old × Thread mods.now nets.now mark.now how.old seen.old (length weight.now) z × (get_or mark.now z 0 ≡ 2) × (length seen.old ≡ length weight.now) }
-    ensures { Steady (card_of first.now mods.now weight.now mark.now) mods.now sums.new flow.new × Thread mods.now nets.now mark.now how.new seen.new (length weight.now) z }
+    requires { Guided board.now × Steady (board_card board.now) board.now.mods.now sums.old flow.old × Thread board.now.mods.now board.now.nets.now board.now.mark.now how.old seen.old (length board.now.weight.now) z × (get_or board.now.mark.now z 0 ≡ 2) × (length seen.old ≡ length board.now.weight.now) }
+    ensures { Steady (board_card board.now) board.now.mods.now sums.new flow.new × Thread board.now.mods.now board.now.nets.now board.now.mark.now how.new seen.new (length board.now.weight.now) z }
 {
     let ways = Ways {
-        mods,
-        weight,
-        nets,
-        mark,
+        mods: board.mods,
+        weight: board.weight,
+        nets: board.nets,
+        mark: board.mark,
         how: &*how,
     };
     let n = push_from(&ways, z, &mut *sums, &mut *flow);
@@ -193,21 +134,14 @@ fn carry(
         return Some(n.at);
     }
     let mended = mend(
-        first, mods, weight, nets, at, pins, mark, guide, &*sums, &*flow, z, n.at, &mut *how,
-        &mut *seen, &mut *rows,
+        board, guide, &*sums, &*flow, z, n.at, &mut *how, &mut *seen, &mut *rows,
     );
     if mended { None } else { Some(n.at) }
 }
 
 // At a maker z: pushes what the way can carry, again while it can be mended, and goes back to before the step that carries no more.
 pub fn deliver(
-    first: &[u16],
-    mods: &[u16],
-    weight: &[u16],
-    nets: &[u16],
-    at: &[u16],
-    pins: &[u16],
-    mark: &[u8],
+    board: &Board<'_>,
     guide: &Guide,
     z: usize,
     how: &mut [u64],
@@ -216,27 +150,17 @@ pub fn deliver(
     sums: &mut [u32],
     flow: &mut [i32],
 ) -> usize
-    requires { Lay first.now mods.now weight.now nets.now at.now pins.now mark.now × Steady (card_of first.now mods.now weight.now mark.now) mods.now sums.old flow.old × Thread mods.now nets.now mark.now how.old seen.old (length weight.now) z × (get_or mark.now z 0 ≡ 2) × (length seen.old ≡ length weight.now) }
-    ensures { Steady (card_of first.now mods.now weight.now mark.now) mods.now sums.new flow.new × Thread mods.now nets.now mark.now how.new seen.new (length weight.now) result }
+    requires { Guided board.now × Steady (board_card board.now) board.now.mods.now sums.old flow.old × Thread board.now.mods.now board.now.nets.now board.now.mark.now how.old seen.old (length board.now.weight.now) z × (get_or board.now.mark.now z 0 ≡ 2) × (length seen.old ≡ length board.now.weight.now) }
+    ensures { Steady (board_card board.now) board.now.mods.now sums.new flow.new × Thread board.now.mods.now board.now.nets.now board.now.mark.now how.new seen.new (length board.now.weight.now) result }
 {
     let mut stop: Option<usize> = None;
     for _ in 0..PUSHES {
         stop = carry(
-            first, mods, weight, nets, at, pins, mark, guide, z, &mut *how, &mut *seen, &mut *rows,
-            &mut *sums, &mut *flow,
+            board, guide, z, &mut *how, &mut *seen, &mut *rows, &mut *sums, &mut *flow,
         );
         if stop.is_some() {
             break;
         }
     }
-    back(
-        mods,
-        nets,
-        mark,
-        weight.len(),
-        z,
-        stop,
-        &mut *how,
-        &mut *seen,
-    )
+    back(board, z, stop, &mut *how, &mut *seen)
 }

@@ -1,6 +1,7 @@
 -- The flow is steady with the sums just made.
 use Rattle.std.proofs.Common.{◌≡◌, ℕ, ◌<◌, List, length, get_or, replicate, ap, ◌∙◌, arith}
 use Rattle.std.proofs.lemmas.List.{length-replicate, get_or-replicate}
+use Rattle.flow.proofs.BoardLaws.{heavy_of}
 use Rattle.flow.proofs.Sets.{in_length}
 use Rattle.flow.proofs.WholeLaws.{summable_of, steady_of}
 use Rattle.climb.specs.Climb.{Empty}
@@ -17,13 +18,13 @@ pub net_sums-requires : goal.net_sums-requires
 net_sums-requires c =
     let args = c.args in
     let pre = c.requires in
-    let heavy = c.type_inv.weight in
-    summable_of args.first.now args.mods.now args.weight.now args.mark.now pre.0.laid (λ e l. omega (arith, heavy e)) args.flow.now pre.3 pre.4 _ pre.2
+    let b = args.board.now in
+    summable_of b.first.now b.mods.now b.weight.now b.mark.now pre.0.laid (heavy_of b) args.flow.now pre.3 pre.4 _ pre.2
 
 pub climb_on-requires : goal.climb_on-requires
 climb_on-requires c =
     let pre = c.requires in
     let args = c.args in
-    let heavy = c.type_inv.weight in
+    let b = args.board.now in
     let net-sums = c.net_sums in
-    (pre.0, steady_of args.first.now args.mods.now args.weight.now args.mark.now pre.0.laid (λ e l. omega (arith, heavy e)) args.flow.now pre.3 pre.4 _ (net-sums.auto.sums ∙ pre.2) (record { sum = λ e l. net-sums.ensures.sum e (omega (arith, net-sums.auto.sums)) }), record { how = c.fill.auto.self ∙ pre.1.how; seen = pre.1.seen }, no_way c.fill.new.self (length args.how.now) (c.fill.ensures.after (λ _ e. e)))
+    (pre.0, steady_of b.first.now b.mods.now b.weight.now b.mark.now pre.0.laid (heavy_of b) args.flow.now pre.3 pre.4 _ (net-sums.auto.sums ∙ pre.2) (record { sum = λ e l. net-sums.ensures.sum e (omega (arith, net-sums.auto.sums)) }), record { how = c.fill.auto.self ∙ pre.1.how; seen = pre.1.seen }, no_way c.fill.new.self (length args.how.now) (c.fill.ensures.after (λ _ e. e)))

@@ -7,7 +7,7 @@ use Rattle.climb.proofs.ways.back.Given as goal
 
 abbrev pub invariant-loop-u : goal.invariant-loop-u
 invariant-loop-u l =
-    Thread l.mods l.nets l.mark l.how l.seen l.count l.u × (length l.how ≡ length l.initial.how) × (length l.seen ≡ length l.initial.seen)
+    Thread l.board.mods.now l.board.nets.now l.board.mark.now l.how l.seen (length l.board.weight.now) l.u × (length l.how ≡ length l.initial.how) × (length l.seen ≡ length l.initial.seen)
 
 abbrev pub decreases-loop-u : goal.decreases-loop-u
 decreases-loop-u l =

@@ -2,9 +2,9 @@
 use Rattle.std.proofs.Common.{◌≡◌, length}
 use Rattle.climb.specs.Climb.{Thread}
 use Rattle.flow.specs.Raise.{Steady}
-use Rattle.flow.specs.Cards.{card_of}
+use Rattle.flow.specs.Board.{board_card}
 use Rattle.climb.proofs.ways.deliver.Given as goal
 
 abbrev pub invariant-loop : goal.invariant-loop
 invariant-loop l =
-    Steady (card_of l.first l.mods l.weight l.mark) l.mods l.sums l.flow × Thread l.mods l.nets l.mark l.how l.seen (length l.weight) l.z × (length l.seen ≡ length l.weight)
+    Steady (board_card l.board) l.board.mods.now l.sums l.flow × Thread l.board.mods.now l.board.nets.now l.board.mark.now l.how l.seen (length l.board.weight.now) l.z × (length l.seen ≡ length l.board.weight.now)
