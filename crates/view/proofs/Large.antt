@@ -1,5 +1,6 @@
 -- The largest book: over its last byte there is a step exactly where more bytes came in (`seen_prints`), and no book that reads is larger (`reads_small`). So what came in is refused for its size, is refused by the reader, or is a book with a split (`over_prints`, `refused_prints`, `read_prints`).
 -- Assumes nothing.
+use Rattle.std.specs.Prelude.{Option, Ok, Err}
 use Prim.Native.Nat.{ℕ, ◌+◌, ◌-◌, ◌≤◌, ◌<◌}
 use mathlib.Core.Path.{◌≡◌, refl}
 use mathlib.Core.Bool.{Bool, true, false}
@@ -12,24 +13,22 @@ use Rattle.book.specs.Format.{u16, laid}
 use Rattle.book.specs.Checks.{read_of}
 use Rattle.book.specs.Steps.{step_if, step_by}
 use Rattle.book.specs.declared.Book.{Book}
-use Rattle.book.specs.declared.Reading.TheVariants.{Good, Refused}
 use Rattle.book.specs.declared.Refusal.{Refusal}
 use Rattle.book.specs.declared.Refusal.TheVariants.{Counts}
 use Rattle.book.proofs.Laid.{contents}
 use Rattle.book.proofs.Sound.{sound}
-use Rattle.view.specs.declared.Listed.{Listed}
 use Rattle.view.specs.Text.{refused_text}
 use Rattle.view.specs.Listing.{largest_book, room, Splits, Lists, Seen, Prints, PrintsIf, WritesIf, Writes}
 
 -- one text for another
-writes_by : {P Q : List ℕ → Type 0} (old : List ℕ) (r : Listed) (new : List ℕ) → ((t : List ℕ) → P t → Q t) → Writes P old r new → Writes Q old r new
+writes_by : {P Q : List ℕ → Type 0} (old : List ℕ) (r : Option ℕ) (new : List ℕ) → ((t : List ℕ) → P t → Q t) → Writes P old r new → Writes Q old r new
 writes_by {P} {Q} old r new f = go (ltb (length old) room)
   where
     go : (b : Bool) → WritesIf b P old r new → WritesIf b Q old r new
     go true w = w
     go false w = record { text = w.text; prints = f w.text w.prints; answer = w.answer; bytes = w.bytes }
 
-pub seen_prints : (s old : List ℕ) (r : Listed) (new : List ℕ) → Writes (Seen (step_by 2 u16 s (largest_book - 1)) s 0) old r new → Writes (Prints s) old r new
+pub seen_prints : (s old : List ℕ) (r : Option ℕ) (new : List ℕ) → Writes (Seen (step_by 2 u16 s (largest_book - 1)) s 0) old r new → Writes (Prints s) old r new
 unfolding step_by
 seen_prints s old r new = writes_by old r new (λ t. go t (leb (largest_book - 1 + 2) (length s)) (ltb largest_book (length s)) refl refl)
   where
@@ -41,7 +40,7 @@ seen_prints s old r new = writes_by old r new (λ t. go t (leb (largest_book - 1
     go t false false d e p = p
 
 -- a book that reads is laid
-reads_laid : (s : List ℕ) (b : Book) → read_of s ≡ Good b → laid s ≡ true
+reads_laid : (s : List ℕ) (b : Book) → read_of s ≡ Ok b → laid s ≡ true
 unfolding read_of
 reads_laid s b e = go (laid s) refl
   where
@@ -49,7 +48,7 @@ reads_laid s b e = go (laid s) refl
     go true h = refl
     go false h = let k = rw h at e in let z : ◌≡◌ {A = ℕ} 0 1 = cc in absurd (omega arith)
 
-pub reads_small : (s : List ℕ) (b : Book) → read_of s ≡ Good b → length s ≤ largest_book
+pub reads_small : (s : List ℕ) (b : Book) → read_of s ≡ Ok b → length s ≤ largest_book
 reads_small s b e =
     let h = sound s b e in
     let l = h.laid_out in
@@ -65,8 +64,8 @@ module _ (s text : List ℕ) where
   small : length s ≤ largest_book → Prints s text → Lists s text
   small l p = rw (le-ltb largest_book (length s) l) at p
 
-  pub refused_prints : (why : Refusal) → length s ≤ largest_book → read_of s ≡ Refused why → Prints s text → text ≡ refused_text why
+  pub refused_prints : (why : Refusal) → length s ≤ largest_book → read_of s ≡ Err why → Prints s text → text ≡ refused_text why
   refused_prints why l e p = rw e at (small l p)
 
-  pub read_prints : (b : Book) → read_of s ≡ Good b → Prints s text → Splits s text
+  pub read_prints : (b : Book) → read_of s ≡ Ok b → Prints s text → Splits s text
   read_prints b e p = rw e at (small (reads_small s b e) p)

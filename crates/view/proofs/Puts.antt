@@ -1,4 +1,5 @@
--- Text put into bytes, and then the text after it: one text (`put_then`). Assumes nothing.
+-- Some put into bytes, and then the text after it: one text (`put_then`). Assumes nothing.
+use Rattle.std.specs.Prelude.{Some}
 use Prim.Native.Nat.{ℕ, ◌+◌, ◌≤◌, ◌<◌}
 use mathlib.Core.Path.{◌≡◌, refl, ap, ap₂, ◌∙◌}
 use mathlib.Core.List.{List, [], ◌∷◌, ◌++◌}
@@ -7,7 +8,6 @@ use native.Mathlib.Nat.{le_refl}
 use lib.ListN.{length, set, length-append}
 use lib.Seq.{paste, paste-zero, length-paste}
 use Rattle.book.proofs.Pasted.{paste_one, paste_then, paste_front}
-use Rattle.view.specs.declared.Listed.TheVariants.{Text}
 use Rattle.view.specs.Listing.{Wrote}
 use Rattle.view.specs.Puts.{Put}
 
@@ -35,5 +35,5 @@ put_then {a} {b} {old} {mid} {new} {at} {n} l p q = record {
 }
 
 -- a text in front, with the tail kept
-pub put_front : {P : List ℕ → Type 0} {text old new : List ℕ} {r : ℕ} → P text → Put text 0 old r new → Wrote P old (Text r) new
-put_front {P} {text} {old} h p = record { text = text; prints = h; answer = ap Text (p.after ∙ omega arith); bytes = p.stands ∙ paste_front text old }
+pub put_front : {P : List ℕ → Type 0} {text old new : List ℕ} {r : ℕ} → P text → Put text 0 old r new → Wrote P old (Some r) new
+put_front {P} {text} {old} h p = record { text = text; prints = h; answer = ap Some (p.after ∙ omega arith); bytes = p.stands ∙ paste_front text old }

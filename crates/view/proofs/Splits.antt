@@ -1,4 +1,5 @@
 -- What a split answers is the listing of its book: the text of both sides, or of the refusal, since the buffers are never short (`listed_price`, `listed_refused`). Assumes nothing.
+use Rattle.std.specs.Prelude.{Result, Ok, Err}
 use Prim.Native.Nat.{ℕ}
 use mathlib.Core.Path.{◌≡◌, refl, ap}
 use mathlib.Core.List.{List}
@@ -9,15 +10,13 @@ use Rattle.book.proofs.Sound.{sound}
 use Rattle.side.specs.Sides.{side_of}
 use Rattle.split.specs.Splits.{Buffers, Split}
 use Rattle.split.specs.Verdicts.{Told, for_near, for_far, for_flow, Refuses, reader, short}
-use Rattle.split.specs.declared.Parted.{Parted}
-use Rattle.split.specs.declared.Parted.TheVariants.{Price, Refused}
 use Rattle.split.proofs.Answers.{split_tells, split_refused}
 use Rattle.view.specs.Text.{split_text, refused_text}
 use Rattle.view.specs.Listing.{Lists}
 use Rattle.view.specs.Puts.{Rows, Ample}
 
-module _ (s : List ℕ) (old new : Buffers) (r : Parted) (k : Split s old r new) where
-  module _ (p : ℕ) (e : r ≡ Price p) where
+module _ (s : List ℕ) (old new : Buffers) (r : Result ℕ Refusal) (k : Split s old r new) where
+  module _ (p : ℕ) (e : r ≡ Ok p) where
     told : Told s p old new
     told = split_tells s old new p (rw e at k)
 
@@ -44,7 +43,7 @@ module _ (s : List ℕ) (old new : Buffers) (r : Parted) (k : Split s old r new)
           text_is = ap (λ (n : ℕ). split_text s n (side_of new.near) (side_of new.far)) t.holds.price_is;
         })
 
-  pub listed_refused : (why : Refusal) → r ≡ Refused why → Ample old.near old.far (length old.flow) → Lists s (refused_text why)
+  pub listed_refused : (why : Refusal) → r ≡ Err why → Ample old.near old.far (length old.flow) → Lists s (refused_text why)
   listed_refused why e a = go (split_refused s old new why (rw e at k))
     where
       go : {why : Refusal} → Refuses s old why → Lists s (refused_text why)

@@ -1,4 +1,8 @@
 -- A book has one listing (`lists_one`), and any two results that a call's statement allows are one (`list_one`, `view_one`). Assumes nothing.
+use Rattle.std.specs.Prelude.{Option, Some, None, Result, Ok, Err}
+use Rattle.book.specs.declared.Book.{Book}
+use Rattle.book.specs.declared.Refusal.{Refusal}
+use Rattle.book.specs.declared.Cursor.{Cursor}
 use Prim.Native.Nat.{ℕ, zero, suc, ◌≤◌}
 use mathlib.Core.Path.{◌≡◌, refl, sym, ap, ap₂, ◌∙◌}
 use mathlib.Core.Bool.{Bool, true, false, cond}
@@ -12,14 +16,8 @@ use Rattle.line.proofs.Cheap.{near_one, far_one}
 use Rattle.book.specs.Format.{modules, area}
 use Rattle.book.specs.Checks.{read_of}
 use Rattle.book.specs.Cards.{card_of, nets_of}
-use Rattle.book.specs.declared.Reading.{Reading}
-use Rattle.book.specs.declared.Reading.TheVariants.{Good, Refused}
-use Rattle.book.specs.declared.Step.{Step}
-use Rattle.book.specs.declared.Step.TheVariants.{Number, End}
 use Rattle.book.proofs.Sound.{sound}
 use Rattle.side.proofs.Alike.{alike_price}
-use Rattle.view.specs.declared.Listed.{Listed}
-use Rattle.view.specs.declared.Listed.TheVariants.{Text}
 use Rattle.view.specs.Text.{bytes, decimal, module_lines, pair_line, side_text, split_text}
 use Rattle.view.specs.Listing.{largest_book, room, Lists, ListsBy, Prints, PrintsIf, Writes, WritesIf, Seen}
 use Rattle.view.proofs.Lines.{side-text}
@@ -47,9 +45,9 @@ split_same s p q near far near' far' e n f =
 pub lists_one : (s text other : List ℕ) → Lists s text → Lists s other → text ≡ other
 lists_one s text other = go (read_of s) refl
   where
-    go : (r : Reading) → read_of s ≡ r → ListsBy r s text → ListsBy r s other → text ≡ other
-    go (Refused why) e a b = a ∙ sym b
-    go (Good k) e a b =
+    go : (r : Result Book Refusal) → read_of s ≡ r → ListsBy r s text → ListsBy r s other → text ≡ other
+    go (Err why) e a b = a ∙ sym b
+    go (Ok k) e a b =
         let n = near_one (card_of s) a.near b.near a.near_is b.near_is in
         let f = far_one (card_of s) a.far b.far a.far_is b.far_is in
         let p : price (nets_of s) a.near ≡ price (nets_of s) b.near = alike_price s a.near b.near n (sound s k e) in
@@ -62,31 +60,31 @@ prints_one s text other = go (ltb largest_book (length s))
     go true a b = a ∙ sym b
     go false a b = lists_one s text other a b
 
-seen_one : (p : Step) (s : List ℕ) (at : ℕ) (text other : List ℕ) → Seen p s at text → Seen p s at other → text ≡ other
-seen_one (Number n c) s at text other a b = a ∙ sym b
-seen_one End s at text other a b = lists_one (drop at s) text other a b
+seen_one : (p : Option (ℕ × Cursor)) (s : List ℕ) (at : ℕ) (text other : List ℕ) → Seen p s at text → Seen p s at other → text ≡ other
+seen_one (Some (n, c)) s at text other a b = a ∙ sym b
+seen_one None s at text other a b = lists_one (drop at s) text other a b
 
 -- ---- the call
 
-writes_one : {P : List ℕ → Type 0} → ((t u : List ℕ) → P t → P u → t ≡ u) → (old : List ℕ) (r q : Listed) (new fresh : List ℕ) → Writes P old r new → Writes P old q fresh → (r ≡ q) × (new ≡ fresh)
+writes_one : {P : List ℕ → Type 0} → ((t u : List ℕ) → P t → P u → t ≡ u) → (old : List ℕ) (r q : Option ℕ) (new fresh : List ℕ) → Writes P old r new → Writes P old q fresh → (r ≡ q) × (new ≡ fresh)
 writes_one {P} one old r q new fresh = go (ltb (length old) room)
   where
     go : (b : Bool) → WritesIf b P old r new → WritesIf b P old q fresh → (r ≡ q) × (new ≡ fresh)
     go true a b = (a.answer ∙ sym b.answer, a.kept ∙ sym b.kept)
     go false a b =
         let e = one a.text b.text a.prints b.prints in
-        (a.answer ∙ ap (λ (t : List ℕ). Text (length t)) e ∙ sym b.answer, a.bytes ∙ ap (λ (t : List ℕ). t ++ drop (length t) old) e ∙ sym b.bytes)
+        (a.answer ∙ ap (λ (t : List ℕ). Some (length t)) e ∙ sym b.answer, a.bytes ∙ ap (λ (t : List ℕ). t ++ drop (length t) old) e ∙ sym b.bytes)
 
 -- `view::list`
-pub list_one : (s old : List ℕ) (r q : Listed) (new fresh : List ℕ) → Writes (Prints s) old r new → Writes (Prints s) old q fresh → (r ≡ q) × (new ≡ fresh)
+pub list_one : (s old : List ℕ) (r q : Option ℕ) (new fresh : List ℕ) → Writes (Prints s) old r new → Writes (Prints s) old q fresh → (r ≡ q) × (new ≡ fresh)
 list_one s = writes_one (prints_one s)
 
 -- `view::View::list`
-pub view_one : (p : Step) (s : List ℕ) (at : ℕ) (old : List ℕ) (r q : Listed) (new fresh : List ℕ) → Writes (Seen p s at) old r new → Writes (Seen p s at) old q fresh → (r ≡ q) × (new ≡ fresh)
+pub view_one : (p : Option (ℕ × Cursor)) (s : List ℕ) (at : ℕ) (old : List ℕ) (r q : Option ℕ) (new fresh : List ℕ) → Writes (Seen p s at) old r new → Writes (Seen p s at) old q fresh → (r ≡ q) × (new ≡ fresh)
 view_one p s at = writes_one (seen_one p s at)
 
 -- the text lies within the lent bytes
-pub list_within : (s old : List ℕ) (k : ℕ) (r : Listed) (new : List ℕ) → r ≡ Text k → Writes (Prints s) old r new → k ≤ length new
+pub list_within : (s old : List ℕ) (k : ℕ) (r : Option ℕ) (new : List ℕ) → r ≡ Some k → Writes (Prints s) old r new → k ≤ length new
 list_within s old k r new e = go (ltb (length old) room)
   where
     go : (b : Bool) → WritesIf b (Prints s) old r new → k ≤ length new

@@ -23,13 +23,6 @@ const SIDE_ROOM: usize = 5 + 20 + 14 + 20 + 1 + 5 * Book::MODULES;
 // Room for every listing.
 pub const ROOM: usize = 6 + 20 + 1 + 2 * SIDE_ROOM;
 
-// The answer of the listing: the length of its text, or that the lent bytes have less than `ROOM`.
-#[derive(Clone, Copy)]
-pub enum Listed {
-    Text(usize),
-    Short,
-}
-
 // A book that is being read: its lent bytes and the place reached.
 #[derive(Clone, Copy)]
 pub struct View<'a> {
@@ -66,15 +59,15 @@ impl<'a> View<'a> {
     }
 
     // Writes the listing of the book that begins at the place reached, or refusal 2 where a number stands past the largest book.
-    pub fn list(self, past: Step, out: &mut [u8]) -> Listed
+    pub fn list(self, past: Step, out: &mut [u8]) -> Option<usize>
         ensures { Writes (Seen past self.entry.book.now self.entry.at) out.old result out.new }
     {
         listing::list_at(self.book, self.at, past, out)
     }
 }
 
-// The listing of what came in, through one view. Over the last byte of the largest book there is a step only where more came in.
-pub fn list(input: &[u8], out: &mut [u8]) -> Listed
+// The listing of what came in, through one view: the length of its text, or none where the lent bytes have less than `ROOM`. Over the last byte of the largest book there is a step only where more came in.
+pub fn list(input: &[u8], out: &mut [u8]) -> Option<usize>
     ensures { Writes (Prints input.now) out.old result out.new }
 {
     let v = View::start(input);

@@ -8,7 +8,7 @@ ghost use Rattle.view.specs.Text.{side_text, split_text, refused_text};
 ghost use Rattle.view.specs.Puts.{Put, Rows, Ample, Listing};
 ghost use Rattle.view.specs.Listing.{side_room, room, Seen, Writes};
 
-use crate::{Listed, text};
+use crate::text;
 use book::{Book, Cursor, Refusal, Step};
 
 // The bytes of a side of the most modules.
@@ -68,8 +68,8 @@ fn list_in(book: &[u8], near: &mut [u8], far: &mut [u8], flow: &mut [i32], out: 
     ensures { Listing book.now out.old result out.new }
 {
     match split::split(book, &mut *near, &mut *far, flow) {
-        split::Parted::Price(p) => put_split(out, book, p, &*near, &*far),
-        split::Parted::Refused(why) => put_refusal(out, why),
+        Ok(price) => put_split(out, book, price, &*near, &*far),
+        Err(why) => put_refusal(out, why),
     }
 }
 
@@ -97,14 +97,14 @@ fn list_from(book: &[u8], at: usize, out: &mut [u8]) -> usize
 }
 
 // The listing of the book that begins at a place, or refusal 2 where a number stands past the largest book.
-pub fn list_at(book: &[u8], at: usize, past: Step, out: &mut [u8]) -> Listed
+pub fn list_at(book: &[u8], at: usize, past: Step, out: &mut [u8]) -> Option<usize>
     ensures { Writes (Seen past book.now at) out.old result out.new }
 {
     if out.len() < crate::ROOM {
-        return Listed::Short;
+        return None;
     }
     match past {
-        Step::Number(_, _) => Listed::Text(put_refusal(out, Refusal::Counts)),
-        Step::End => Listed::Text(list_from(book, at, out)),
+        Some(_) => Some(put_refusal(out, Refusal::Counts)),
+        None => Some(list_from(book, at, out)),
     }
 }

@@ -18,12 +18,9 @@ pub fn put_text(out: &mut [u8], at: usize, text: &[u8]) -> usize
     requires { at + length text.now ≤ length out.old }
     ensures { Put text.now at out.old result out.new }
 {
-    let mut i = 0;
-    while i < text.len() {
-        out[at + i] = text[i];
-        i += 1;
-    }
-    at + i
+    let end = at + text.len();
+    out[at..end].copy_from_slice(text);
+    end
 }
 
 // A number in decimal: its last digit after those of a tenth of it.
@@ -77,10 +74,8 @@ pub fn put_modules(out: &mut [u8], at: usize, side: &[u8], count: usize) -> usiz
     ensures { Put (module_lines (side_of side.now) count) at out.old result out.new }
 {
     let mut next = at;
-    let mut m = 0;
-    while m < count {
+    for m in 0..count {
         next = put_module(&mut *out, next, side, m);
-        m += 1;
     }
     next
 }

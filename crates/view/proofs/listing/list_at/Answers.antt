@@ -5,6 +5,6 @@ use Rattle.view.specs.Listing.{room}
 use Rattle.view.proofs.Puts.{put_front}
 use Rattle.view.proofs.listing.list_at.Goals as goal
 
-pub returns-in-End : goal.returns-in-End
-returns-in-End c =
-    rw (le-ltb (length c.args.out.now) room c.if-out-lt-ROOM.false, c.in-End.is) (put_front c.list_from.ensures.lists c.list_from.ensures.put)
+pub returns-in-None : goal.returns-in-None
+returns-in-None c =
+    rw (le-ltb (length c.args.out.now) room c.if-out-lt-ROOM.false, c.in-None.is) (put_front c.list_from.ensures.lists c.list_from.ensures.put)

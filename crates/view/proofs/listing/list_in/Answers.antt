@@ -4,8 +4,8 @@ use Rattle.view.proofs.listing.list_in.Goals as goal
 
 pub put_split-requires : goal.put_split-requires
 put_split-requires c =
-    (rows_split c.args.book.now _ _ _ c.split.ensures _ c.in-Price.is, c.requires.1)
+    (rows_split c.args.book.now _ _ _ c.split.ensures _ c.in-Ok.is, c.requires.1)
 
-pub returns-in-Refused : goal.returns-in-Refused
-returns-in-Refused c =
-    record { text = _; lists = listed_refused c.args.book.now _ _ _ c.split.ensures _ c.in-Refused.is c.requires.0; put = c.put_refusal.ensures }
+pub returns-in-Err : goal.returns-in-Err
+returns-in-Err c =
+    record { text = _; lists = listed_refused c.args.book.now _ _ _ c.split.ensures _ c.in-Err.is c.requires.0; put = c.put_refusal.ensures }

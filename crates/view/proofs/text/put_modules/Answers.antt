@@ -9,7 +9,7 @@ use Rattle.view.proofs.text.put_modules.Goals as goal
 
 pub loop-m-init : goal.loop-m-init
 unfolding module_lines
-loop-m-init c = (omega arith, put_none c.args.at c.args.out.now)
+loop-m-init c = (put_none c.args.at c.args.out.now)
 
 pub put_module-next-requires : goal.put_module-next-requires
 put_module-next-requires c =
@@ -19,7 +19,7 @@ put_module-next-requires c =
     let x = side_of a.side.now in
     let long = lines_long x l.m in
     let grow = lines_grow x (l.m + 1) a.count (omega arith) in
-    (omega (arith, p.0), omega (arith, p.1, l.invariant.1.after, long, grow, put_long (omega (arith, p.1, long, grow)) l.invariant.1))
+    (omega (arith, p.0), omega (arith, p.1, l.invariant.after, long, grow, put_long (omega (arith, p.1, long, grow)) l.invariant))
 
 pub loop-m-preserved : goal.loop-m-preserved
 loop-m-preserved c =
@@ -28,4 +28,4 @@ loop-m-preserved c =
     let x = side_of a.side.now in
     let long = lines_long x l.m in
     let grow = lines_grow x (l.m + 1) a.count (omega arith) in
-    (omega arith, rw (lines_next x l.m) (put_then (omega (arith, c.requires.1, l.invariant.1.after, long, grow)) l.invariant.1 c.put_module-next.ensures))
+    (rw (lines_next x l.m) (put_then (omega (arith, c.requires.1, l.invariant.after, long, grow)) l.invariant c.put_module-next.ensures))

@@ -1,5 +1,4 @@
 -- `view::text::put_modules` meets its contract: the lines of the modules below `m` stand. Assumes nothing.
-use Prim.Native.Nat.{◌-◌, ◌≤◌}
 use Rattle.side.specs.Sides.{side_of}
 use Rattle.view.specs.Puts.{Put}
 use Rattle.view.specs.Text.{module_lines}
@@ -7,8 +6,4 @@ use Rattle.view.proofs.text.put_modules.Given as goal
 
 abbrev pub invariant-loop-m : goal.invariant-loop-m
 invariant-loop-m l =
-    (l.m ≤ l.count) × Put (module_lines (side_of l.side) l.m) l.at l.initial.out l.next l.out
-
-abbrev pub decreases-loop-m : goal.decreases-loop-m
-decreases-loop-m l =
-    l.count - l.m
+    Put (module_lines (side_of l.side) l.m) l.at l.initial.out l.next l.out
