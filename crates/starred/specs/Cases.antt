@@ -1,5 +1,6 @@
 -- A case of the desk's table: a book, a call on it and what is expected of it, in document 01's numbers; and what it means that a case holds. This page holds definitions only.
-use Rattle.std.specs.Prelude.{◌≡◌, ◌↔◌, not, List, [], ◌∷◌, ℕ, T, ℤ, pos, Float}
+use Rattle.book.specs.declared.Refusal.{Refusal}
+use Rattle.std.specs.Prelude.{◌≡◌, ◌↔◌, not, List, [], ◌∷◌, ℕ, T, ℤ, pos, Float, Result}
 use Rattle.line.specs.Card as card
 use Rattle.line.specs.Card.{Near, Far, whole_area}
 use Rattle.book.specs.Format.{area}
@@ -12,7 +13,6 @@ use Rattle.side.specs.Moves as moves
 use Rattle.audit.specs.Checker as checker
 use Rattle.split.specs.Splits as splits
 use Rattle.split.specs.Splits.{Buffers, Split}
-use Rattle.split.specs.declared.Parted.{Parted}
 use Rattle.gate.specs.Gates.{good_gate, band_of}
 use Rattle.gate.specs.declared.Gate.{Gate}
 use Rattle.walk.specs.declared.Row.{Row}
@@ -95,7 +95,7 @@ pub data Case : Type 0 where
 -- ---- When it holds.
 
 -- What a split leaves: the numbers, and both sides written over what their buffers held.
-pub record Leaves (t : Parts) (old : Buffers) (r : Parted) (new : Buffers) : Type 0 where
+pub record Leaves (t : Parts) (old : Buffers) (r : Result ℕ Refusal) (new : Buffers) : Type 0 where
   pub numbers : splits.numbers_of r ≡ t.numbers
   pub near : new.near ≡ over t.near old.near
   pub far : new.far ≡ over t.far old.far
@@ -108,7 +108,7 @@ pub record Drawn (s : List ℕ) (t : Parts) : Type 0 where
 
 -- Whatever the lent buffers, where none is short: each result that the split's statement allows leaves this. And where the split is done, this is so by the page of meanings.
 pub record SplitTells (s : List ℕ) (t : Parts) : Type 0 where
-  pub every : (old new : Buffers) (r : Parted) → T (not (splits.too_short s old)) → Bytes new.near → Bytes new.far → Split s old r new → Leaves t old r new
+  pub every : (old new : Buffers) (r : Result ℕ Refusal) → T (not (splits.too_short s old)) → Bytes new.near → Bytes new.far → Split s old r new → Leaves t old r new
   pub page : t.numbers.number ≡ 0 → Drawn s t
 
 -- What a walk leaves: the numbers, and the side and the rows written over what their buffers held.
