@@ -2,7 +2,7 @@
 use Rattle.std.specs.Prelude.{Result, Ok, Err}
 use mathlib.Core.Path.{◌≡◌, refl, sym, ap, ◌∙◌}
 use mathlib.Core.Bool.{Bool, true, false, not, true≢false}
-use mathlib.Core.List.{List, []}
+use mathlib.Core.List.{List, [], ◌∷◌, ◌++◌, map}
 use Prim.Native.Nat.{ℕ, suc}
 use native.Mathlib.Omega.{arith}
 use lib.Dec.{T}
@@ -39,10 +39,10 @@ use Rattle.gate.specs.declared.Verdict.{Verdict}
 use Rattle.walk.specs.declared.Row.{Row}
 use Rattle.walk.specs.Walk.{Outcome, found, none_left, free_to, answer}
 use Rattle.walk.specs.Call as walks
-use Rattle.walk.specs.Call.{Walked, Comes, checked_of, written, side_bytes}
+use Rattle.walk.specs.Call.{Left, Walked, Comes, checked_of, written, side_bytes, row_bytes, rows_bytes, over}
 use Rattle.walk.proofs.Call.{walked_one}
 use Rattle.walk.proofs.Plain.{run, run_walks}
-use Rattle.starred.specs.Cases.{Call, read, price, move, check, split, walk, Parts, Rounds, Told, refused, parts, Leaves, Drawn, SplitTells, WalkTells, leaves, Tells}
+use Rattle.starred.specs.Cases.{numbers_in, bytes_in, Call, read, price, move, check, split, walk, Parts, Rounds, Told, refused, parts, Leaves, Drawn, SplitTells, WalkTells, leaves, Tells}
 use Rattle.starred.proofs.Bytes.{bytes_side, row_over}
 
 -- ---- the split
@@ -123,7 +123,7 @@ side_in n none_left = []
 
 -- what the rows and the outcome of a walk tell
 abbrev ran : List ℕ → List Row × Outcome → Rounds
-ran s p = record { numbers = answer (card_of s) p.0 p.1; rows = p.0; side = side_in (modules s) p.1 }
+ran s p = record { numbers = answer (card_of s) p.0 p.1; rows = map numbers_in p.0; side = side_in (modules s) p.1 }
 
 -- what the gate says of an area
 abbrev said : List ℕ → Gate → ℕ → Verdict
@@ -138,13 +138,19 @@ rounds_by (Ok b) true s g = ran s (run_of s g)
 rounds_by (Ok b) false s g = refused (walk g) (number_of refusal.Gate) (place_of refusal.Gate)
 rounds_by (Err why) good s g = refused (walk g) (number_of why) (place_of why)
 
+-- the rows of a walk and their numbers are the same bytes
+rows_same : (rs : List Row) → rows_bytes rs ≡ bytes_in (map numbers_in rs)
+unfolding rows_bytes row_bytes bytes_in
+rows_same [] = refl
+rows_same (r ∷ rs) = ap (λ (b : List ℕ). row_bytes r ++ b) (rows_same rs)
+
 module _ (s : List ℕ) (g : Gate) (side rows : List ℕ) (t : T (not (walks.too_short s side rows))) where
   ran_leaves : (rs : List Row) (o : Outcome) → written s rs o side rows ≡ leaves (ran s (rs, o)) side rows
-  ran_leaves rs (found x) = refl
-  ran_leaves rs none_left = refl
+  ran_leaves rs (found x) = ap (λ (b : List ℕ). record { answer = answer (card_of s) rs (found x); side = over (side_bytes x (modules s)) side; rows = over b rows }) (rows_same rs)
+  ran_leaves rs none_left = ap (λ (b : List ℕ). record { answer = answer (card_of s) rs none_left; side = side; rows = over b rows }) (rows_same rs)
 
   walk_allows : Walked s g side rows (leaves (rounds_by (read_of s) (good_gate g) s g) side rows)
-  unfolding checked_of walks.rows_bytes
+  unfolding checked_of bytes_in
   walk_allows = go (read_of s) (good_gate g) (walks.too_short s side rows) refl (T_false _ t)
     where
       go : (r : Result Book Refusal) (d w : Bool) → read_of s ≡ r → w ≡ false →
