@@ -1,4 +1,5 @@
 -- A number that names no gate is a bad gate, whatever a and b are: on a book that reads the walk refuses it with 7 and writes nothing. Assumes nothing.
+use Rattle.std.specs.Prelude.{Err}
 use Prim.Native.Nat.{ℕ, ◌<◌}
 use mathlib.Core.Path.{◌≡◌, ap, ◌∙◌}
 use mathlib.Core.Bool.{false}
@@ -7,7 +8,6 @@ use native.Mathlib.Omega.{arith}
 use borrow.Author.Tests.{ne_eqb}
 use lib.Ieee.{Float, le}
 use lib.IntN.{ℤ}
-use Rattle.book.specs.declared.Reading.TheVariants.{Refused}
 use Rattle.book.specs.declared.Refusal.TheVariants.{Gate}
 use Rattle.book.specs.Answer.{number_of, place_of}
 use Rattle.side.specs.Given.{Reads}
@@ -31,7 +31,7 @@ pub record Seven (side₀ rows₀ side rows : List ℕ) (eight : List ℤ) : Typ
 pub no_gate_seven : (s : List ℕ) (n : ℕ) (a b : Float) (side₀ rows₀ side rows : List ℕ) (eight : List ℤ) → 2 < n → Reads s → WalkTold s (gate_of n a b) side₀ rows₀ side rows eight → Seven side₀ rows₀ side rows eight
 unfolding checked_of
 no_gate_seven s n a b side₀ rows₀ side rows eight h r k =
-    let e : checked_of s (gate_of n a b) side₀ rows₀ ≡ Refused Gate = rw (r.1, no_gate_bad n a b h) in
+    let e : checked_of s (gate_of n a b) side₀ rows₀ ≡ Err Gate = rw (r.1, no_gate_bad n a b h) in
     let w : record { answer = k.answer; side = side; rows = rows } ≡ refused Gate side₀ rows₀ = rw e at k.walked in
     record {
       numbers = k.numbers ∙ ap (λ (l : Left). walk_places l.answer) w;

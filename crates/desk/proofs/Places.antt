@@ -1,4 +1,6 @@
 -- No refusal names a place beyond the most pins of a book, whichever call gives it: the first two of the eight numbers are small. Assumes nothing.
+use Rattle.std.specs.Prelude.{Option, Some, None, Result, Ok, Err}
+use Rattle.book.specs.declared.Book.{Book}
 use Prim.Native.Nat.{ℕ, zero, suc, ◌+◌, ◌≤◌, ◌<◌}
 use mathlib.Core.Path.{◌≡◌, refl, subst}
 use mathlib.Core.Bool.{Bool, true, false, not}
@@ -8,10 +10,6 @@ use lib.Dec.{leb, eqb}
 use lib.IntN.{ℤ}
 use borrow.Author.Tests.{leb-true, not-false}
 use Rattle.line.proofs.Bools.{and_four}
-use Rattle.book.specs.declared.Found.{Found}
-use Rattle.book.specs.declared.Found.TheVariants.{At, Nothing}
-use Rattle.book.specs.declared.Reading.{Reading}
-use Rattle.book.specs.declared.Reading.TheVariants.{Good, Refused}
 use Rattle.book.specs.declared.Refusal.{Refusal}
 use Rattle.book.specs.declared.Refusal.TheVariants.{Layout, Counts, Module, Net, Pin, Marks, Buffer, Side, Move, NetRule, ModuleRule, Values, Stuck}
 use Rattle.book.specs.declared.Refusal.TheVariants as refusal
@@ -24,19 +22,15 @@ use Rattle.book.proofs.Firsts.{passed, lowest_at}
 use Rattle.book.proofs.Laid.{sum_right}
 use Rattle.book.proofs.CardLaws.{pin_before}
 use Rattle.book.proofs.Sound.{sound}
-use Rattle.side.specs.declared.Priced.TheVariants as prices
-use Rattle.side.specs.declared.Moved.TheVariants as moves
 use Rattle.side.specs.Sides.{Bytes}
 use Rattle.side.specs.Given as given
 use Rattle.side.specs.Prices.{priced}
 use Rattle.side.specs.Moves.{changed, RefusesMove, side, fixed}
 use Rattle.side.proofs.Prices.{price_refuses}
 use Rattle.side.proofs.Changes.{change_refuses}
-use Rattle.audit.specs.declared.Checked.TheVariants as checks
 use Rattle.audit.specs.Checker.{checked_of}
 use Rattle.audit.specs.Verdicts as verdicts
 use Rattle.audit.proofs.Answers.{refused_tells}
-use Rattle.split.specs.declared.Parted.TheVariants as parted
 use Rattle.split.specs.Splits.{Buffers, Split}
 use Rattle.split.specs.Verdicts as splits
 use Rattle.split.proofs.Answers.{split_refused}
@@ -67,22 +61,22 @@ number_few Stuck = omega arith
 -- ---- the reader
 
 -- where a search ends, if it finds anything
-abbrev Within : ℕ → Found → Type 0
-Within n f = (p : ℕ) → f ≡ At p → p ≤ n
+abbrev Within : ℕ → Option ℕ → Type 0
+Within n f = (p : ℕ) → f ≡ Some p → p ≤ n
 
 if_within : (t : Bool) (n : ℕ) → Within n (find_if t n)
 if_within true n p e = let u : n ≡ p = cc in omega arith
 if_within false n p e = let z : ◌≡◌ {A = ℕ} 0 1 = cc in absurd (omega arith)
 
-else_within : (n : ℕ) (f g : Found) → Within n f → Within n g → Within n (or_else f g)
-else_within n (At i) g a b = a
-else_within n Nothing g a b = b
+else_within : (n : ℕ) (f g : Option ℕ) → Within n f → Within n g → Within n (or_else f g)
+else_within n (Some i) g a b = a
+else_within n None g a b = b
 
-from_within : (n start : ℕ) (f : Found) → ((j : ℕ) → f ≡ At j → start + j ≤ n) → Within n (from start f)
-from_within n start (At j) h p e = let u : start + j ≡ p = cc in omega (arith, h j refl)
-from_within n start Nothing h p e = let z : ◌≡◌ {A = ℕ} 0 1 = cc in absurd (omega arith)
+from_within : (n start : ℕ) (f : Option ℕ) → ((j : ℕ) → f ≡ Some j → start + j ≤ n) → Within n (from start f)
+from_within n start (Some j) h p e = let u : start + j ≡ p = cc in omega (arith, h j refl)
+from_within n start None h p e = let z : ◌≡◌ {A = ℕ} 0 1 = cc in absurd (omega arith)
 
-first_within : (n : ℕ) (f : ℕ → Found) (m : ℕ) → ((k : ℕ) → k < m → Within n (f k)) → Within n (first f m)
+first_within : (n : ℕ) (f : ℕ → Option ℕ) (m : ℕ) → ((k : ℕ) → k < m → Within n (f k)) → Within n (first f m)
 unfolding first
 first_within n f zero h p e = let z : ◌≡◌ {A = ℕ} 0 1 = cc in absurd (omega arith)
 first_within n f (suc m) h p e = else_within n (first f m) (f m) (first_within n f m (λ k l. h k (omega arith))) (h m (omega arith)) p e
@@ -110,20 +104,20 @@ module _ (s : List ℕ) where
     nets_few : nets s ≤ most_nets
     pins_few : pins s ≤ most_pins
 
-  few : check2 s ≡ Nothing → Few
+  few : check2 s ≡ None → Few
   unfolding counted
   few e =
       let c = and_four (leb least_modules (modules s)) (leb (modules s) most_modules) (leb (nets s) most_nets) (leb (pins s) most_pins) (not-false _ (passed _ 0 e)) in
       record { modules_few = leb-true _ _ c.1; nets_few = leb-true _ _ c.2; pins_few = leb-true _ _ c.3 }
 
-abbrev pub PlaceFew : Reading → Type 0
-PlaceFew (Good b) = Unit {0}
-PlaceFew (Refused why) = place_of why ≤ most_pins
+abbrev pub PlaceFew : Result Book Refusal → Type 0
+PlaceFew (Ok b) = Unit {0}
+PlaceFew (Err why) = place_of why ≤ most_pins
 
 -- a check names a small place, or the rest does
-named : (f : Found) (w : ℕ → Refusal) (r : Reading) → ((p : ℕ) → f ≡ At p → place_of (w p) ≤ most_pins) → (f ≡ Nothing → PlaceFew r) → PlaceFew (refuse f w r)
-named (At p) w r a b = a p refl
-named Nothing w r a b = b refl
+named : (f : Option ℕ) (w : ℕ → Refusal) (r : Result Book Refusal) → ((p : ℕ) → f ≡ Some p → place_of (w p) ≤ most_pins) → (f ≡ None → PlaceFew r) → PlaceFew (refuse f w r)
+named (Some p) w r a b = a p refl
+named None w r a b = b refl
 
 pub read_few : (s : List ℕ) → PlaceFew (read_of s)
 unfolding read_of rest_of
@@ -136,7 +130,7 @@ read_few s =
     (λ four. named (check5 s) Pin _ (λ p e. omega (arith, h.pins_few, sum_right s four, pin_within s p e))
     (λ five. named (check6 s) (λ _. Marks) _ (λ p e. omega arith) (λ six. tt))))))
 
-pub read_place : (s : List ℕ) {why : Refusal} → read_of s ≡ Refused why → place_of why ≤ most_pins
+pub read_place : (s : List ℕ) {why : Refusal} → read_of s ≡ Err why → place_of why ≤ most_pins
 read_place s e = subst PlaceFew e (read_few s)
 
 -- ---- the calls that are given a side
@@ -146,10 +140,10 @@ side_few s l (given.reader e) = read_place s e
 side_few s l (given.short r h) = omega arith
 side_few s l (given.misfit r h f) = omega arith
 
-pub price_place : (s l : List ℕ) (why : Refusal) → Bytes l → priced s l ≡ prices.Refused why → place_of why ≤ most_pins
+pub price_place : (s l : List ℕ) (why : Refusal) → Bytes l → priced s l ≡ Err why → place_of why ≤ most_pins
 price_place s l why h e = side_few s l (price_refuses s l h why e)
 
-pub move_place : (s l : List ℕ) (m : ℕ) (why : Refusal) → Bytes l → changed s l m ≡ moves.Refused why → place_of why ≤ most_pins
+pub move_place : (s l : List ℕ) (m : ℕ) (why : Refusal) → Bytes l → changed s l m ≡ Err why → place_of why ≤ most_pins
 move_place s l m why h e = go (change_refuses s l m h why e)
   where
     go : {why : Refusal} → RefusesMove s l m why → place_of why ≤ most_pins
@@ -158,7 +152,7 @@ move_place s l m why h e = go (change_refuses s l m h why e)
 
 -- ---- the checker: a net that breaks the net rule, a module that breaks the module rule
 
-pub check_place : (s l : List ℕ) (xs : List ℤ) (claim : ℕ) (why : Refusal) → Bytes l → checked_of s l xs claim ≡ checks.Refused why → place_of why ≤ most_pins
+pub check_place : (s l : List ℕ) (xs : List ℤ) (claim : ℕ) (why : Refusal) → Bytes l → checked_of s l xs claim ≡ Err why → place_of why ≤ most_pins
 check_place s l xs claim why h e = go (refused_tells s l xs claim h e)
   where
     go : {why : Refusal} → verdicts.Refuses s l xs claim why → place_of why ≤ most_pins
@@ -171,7 +165,7 @@ check_place s l xs claim why h e = go (refused_tells s l xs claim h e)
 
 -- ---- the split
 
-pub split_place : (s : List ℕ) (old new : Buffers) (why : Refusal) → Split s old (parted.Refused why) new → place_of why ≤ most_pins
+pub split_place : (s : List ℕ) (old new : Buffers) (why : Refusal) → Split s old (Err why) new → place_of why ≤ most_pins
 split_place s old new why k = go (split_refused s old new why k)
   where
     go : {why : Refusal} → splits.Refuses s old why → place_of why ≤ most_pins
@@ -181,14 +175,14 @@ split_place s old new why k = go (split_refused s old new why k)
 -- ---- the walk: with 14 the place is 0
 
 module _ (s : List ℕ) (g : Gate) (side rows : List ℕ) where
-  tested : (a b : Bool) (r : Reading) → PlaceFew r → PlaceFew (refuse_if a refusal.Gate (refuse_if b Buffer r))
+  tested : (a b : Bool) (r : Result Book Refusal) → PlaceFew r → PlaceFew (refuse_if a refusal.Gate (refuse_if b Buffer r))
   tested true b r h = omega arith
   tested false true r h = omega arith
   tested false false r h = h
 
-  after : (r : Reading) → PlaceFew r → PlaceFew (if_read r (checked_sound s g side rows))
-  after (Good b) h = tested (not (good_gate g)) (too_short s side rows) (Good (book_of s)) tt
-  after (Refused why) h = h
+  after : (r : Result Book Refusal) → PlaceFew r → PlaceFew (if_read r (checked_sound s g side rows))
+  after (Ok b) h = tested (not (good_gate g)) (too_short s side rows) (Ok (book_of s)) tt
+  after (Err why) h = h
 
   checked_few : PlaceFew (call.checked_of s g side rows)
   unfolding call.checked_of
@@ -201,6 +195,6 @@ module _ (s : List ℕ) (g : Gate) (side rows : List ℕ) where
   pub walk_place : (a : Left) → Walked s g side rows a → a.answer.place ≤ most_pins
   walk_place a = go (call.checked_of s g side rows) checked_few
     where
-      go : (r : Reading) → PlaceFew r → Comes r s g side rows a → a.answer.place ≤ most_pins
-      go (Refused why) h k = rw k h
-      go (Good b) h k = rw k.left (ended k.rounds k.outcome)
+      go : (r : Result Book Refusal) → PlaceFew r → Comes r s g side rows a → a.answer.place ≤ most_pins
+      go (Err why) h k = rw k h
+      go (Ok b) h k = rw k.left (ended k.rounds k.outcome)

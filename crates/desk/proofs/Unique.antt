@@ -1,10 +1,11 @@
 -- Any two results that an exported function's statement allows are one: the eight numbers, and every lent byte but the numbers of a split's flow. Assumes nothing.
+use Rattle.std.specs.Prelude.{Result}
+use Rattle.book.specs.declared.Refusal.{Refusal}
 use Prim.Native.Nat.{ℕ}
 use mathlib.Core.Path.{◌≡◌, sym, ap, ◌∙◌}
 use mathlib.Core.List.{List}
 use lib.IntN.{ℤ}
 use Rattle.side.specs.Sides.{Bytes}
-use Rattle.split.specs.declared.Parted.{Parted}
 use Rattle.split.specs.Splits.{Buffers, numbers_of}
 use Rattle.split.proofs.Unique.{One, split_one}
 use Rattle.gate.specs.declared.Gate.{Gate}
@@ -32,7 +33,7 @@ pub split_told_one : (s : List ℕ) (old new fresh : Buffers) (z w : List ℤ) (
     Bytes new.near → Bytes new.far → Bytes fresh.near → Bytes fresh.far → (z ≡ w) × One s h.answer k.answer new fresh
 split_told_one s old new fresh z w h k a b c d =
     let one = split_one s old new fresh h.answer k.answer h.split k.split a b c d in
-    (h.numbers ∙ ap (λ (r : Parted). split_places (numbers_of r)) one.answer ∙ sym k.numbers, one)
+    (h.numbers ∙ ap (λ (r : Result ℕ Refusal). split_places (numbers_of r)) one.answer ∙ sym k.numbers, one)
 
 -- ---- the walk
 

@@ -1,4 +1,6 @@
 -- The values of every answer are small: a price is at most the largest, and there are at most as many rounds as modules and one more. Assumes nothing.
+use Rattle.std.specs.Prelude.{Result, Ok, Err}
+use Rattle.book.specs.declared.Refusal.{Refusal}
 use Prim.Native.Nat.{ℕ, zero, suc, ◌+◌, ◌*◌, ◌≤◌, ◌<◌}
 use mathlib.Core.Path.{◌≡◌, refl, ap, subst, ◌∙◌}
 use mathlib.Core.Bool.{Bool, true, false, cond}
@@ -11,19 +13,15 @@ use mir.Val.{SFits}
 use Rattle.line.specs.Card.{Net, Side, crosses, cost, price, area_to, count_to}
 use Rattle.line.proofs.Index.{price-suc}
 use Rattle.book.specs.declared.Book.{Book}
-use Rattle.book.specs.declared.Reading.{Reading}
-use Rattle.book.specs.declared.Reading.TheVariants.{Good, Refused}
 use Rattle.book.specs.Format.{modules, nets, mark, weight, u16, u32, field}
 use Rattle.book.specs.Checks.{most_modules, most_nets, most_pins, read_of}
 use Rattle.book.specs.Cards.{net_of, nets_of}
 use Rattle.book.specs.Sound.{Sound}
 use Rattle.book.proofs.CardLaws.{nets-length, net-at, price_start, price_all}
 use Rattle.book.proofs.Sound.{sound, counts_are}
-use Rattle.side.specs.declared.Priced.TheVariants as priced-as
 use Rattle.side.specs.Sides.{side_of, Bytes}
 use Rattle.side.specs.Prices.{most_number, most_price, priced}
 use Rattle.side.proofs.Prices.{price_tells}
-use Rattle.split.specs.declared.Parted.TheVariants as parted
 use Rattle.split.specs.Splits.{Buffers, Split}
 use Rattle.split.proofs.Answers.{split_tells}
 use Rattle.gate.specs.declared.Gate.{Gate}
@@ -43,7 +41,7 @@ pub record Counts (b : Book) : Type 0 where
   pub nets_few : b.nets ≤ most_nets
   pub pins_few : b.pins ≤ most_pins
 
-pub counts_few : (s : List ℕ) (b : Book) → read_of s ≡ Good b → Counts b
+pub counts_few : (s : List ℕ) (b : Book) → read_of s ≡ Ok b → Counts b
 counts_few s b e =
     let h = sound s b e in
     subst Counts (counts_are s b e) (record { modules_few = h.few_modules; nets_few = h.few_nets; pins_few = h.few_pins })
@@ -73,10 +71,10 @@ module _ (s : List ℕ) (h : Bytes s) (x : Side) where
   pub price_most : Sound s → price (nets_of s) x ≤ most_price
   price_most k = omega (arith, price_all s x, price_to (nets s) (omega arith), k.few_nets)
 
-pub price_few : (s l : List ℕ) (p : ℕ) → Bytes s → priced s l ≡ priced-as.Price p → p ≤ most_price
+pub price_few : (s l : List ℕ) (p : ℕ) → Bytes s → priced s l ≡ Ok p → p ≤ most_price
 price_few s l p h e = let a = price_tells s l p e in omega (arith, a.is, price_most s h (side_of l) (sound s a.reads.0 a.reads.1))
 
-pub split_few : (s : List ℕ) (old new : Buffers) (p : ℕ) → Bytes s → Split s old (parted.Price p) new → p ≤ most_price
+pub split_few : (s : List ℕ) (old new : Buffers) (p : ℕ) → Bytes s → Split s old (Ok p) new → p ≤ most_price
 split_few s old new p h k = let t = split_tells s old new p k in omega (arith, t.holds.price_is, price_most s h (side_of new.near) t.sound)
 
 -- ---- a count of rounds
@@ -94,6 +92,6 @@ module _ (s : List ℕ) (g : Gate) (side rows : List ℕ) where
   pub rounds_most : (a : Left) → Walked s g side rows a → a.answer.rounds ≤ most_modules + 1
   rounds_most a = go (checked_of s g side rows) refl
     where
-      go : (r : Reading) → checked_of s g side rows ≡ r → Comes r s g side rows a → a.answer.rounds ≤ most_modules + 1
-      go (Refused why) e k = rw k (omega arith)
-      go (Good b) e k = omega (arith, book_rounds s g side rows a k, count_most (free (mark s)) (modules s), (checked s g side rows b e).reads.few_modules)
+      go : (r : Result Book Refusal) → checked_of s g side rows ≡ r → Comes r s g side rows a → a.answer.rounds ≤ most_modules + 1
+      go (Err why) e k = rw k (omega arith)
+      go (Ok b) e k = omega (arith, book_rounds s g side rows a k, count_most (free (mark s)) (modules s), (checked s g side rows b e).reads.few_modules)

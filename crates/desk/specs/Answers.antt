@@ -1,5 +1,6 @@
 -- An answer as the C interface gives it: eight numbers, which are those of document 01 for the call's own answer. Definitions only.
-use Rattle.std.specs.Prelude.{ℕ, zero, suc, ◌≡◌, cond, List, [], ◌∷◌, eqb, Float, ℤ, pos}
+use Rattle.book.specs.declared.Refusal.{Refusal}
+use Rattle.std.specs.Prelude.{ℕ, zero, suc, ◌≡◌, cond, List, [], ◌∷◌, eqb, Float, ℤ, pos, Result}
 use Rattle.book.specs.Checks.{read_of}
 use Rattle.book.specs.Answer as book
 use Rattle.side.specs.Prices.{priced}
@@ -8,7 +9,6 @@ use Rattle.side.specs.Moves.{changed}
 use Rattle.side.specs.Moves as moves
 use Rattle.audit.specs.Checker.{checked_of}
 use Rattle.audit.specs.Checker as checker
-use Rattle.split.specs.declared.Parted.{Parted}
 use Rattle.split.specs.Splits.{Buffers, Split}
 use Rattle.split.specs.Splits as splits
 use Rattle.gate.specs.Gates.{zero_f, top_f}
@@ -60,7 +60,7 @@ split_places n = places n.number n.place (pos n.price ∷ [])
 
 -- The eight numbers are those of an answer that the split's own statement allows, with the buffers as they are left.
 pub record SplitTold (s : List ℕ) (old new : Buffers) (eight : List ℤ) : Type 0 where
-  pub answer : Parted
+  pub answer : Result ℕ Refusal
   pub split : Split s old answer new
   pub numbers : eight ≡ split_places (splits.numbers_of answer)
 

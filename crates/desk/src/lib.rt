@@ -9,6 +9,7 @@ ghost use Rattle.desk.specs.Answers.{places, read_told, price_told, move_told, c
 
 use book::Refusal;
 use gate::Gate;
+use walk::NotDone;
 
 // The numbers of the three gates.
 const OPEN: u32 = 0;
@@ -43,8 +44,8 @@ pub extern "C" fn platelayer_read(book: &[u8], answer: &mut [i64; 8])
     ensures { answer.new ≡ read_told book.now }
 {
     match book::read(book) {
-        book::Reading::Good(b) => done(answer, b.modules as i64, b.nets as i64, b.pins as i64),
-        book::Reading::Refused(why) => refused(answer, why, 0),
+        Ok(b) => done(answer, b.modules as i64, b.nets as i64, b.pins as i64),
+        Err(why) => refused(answer, why, 0),
     }
 }
 
@@ -54,8 +55,8 @@ pub extern "C" fn platelayer_price(book: &[u8], side: &[u8], answer: &mut [i64; 
     ensures { answer.new ≡ price_told book.now side.now }
 {
     match side::price(book, side) {
-        side::Priced::Price(price) => done(answer, price as i64, 0, 0),
-        side::Priced::Refused(why) => refused(answer, why, 0),
+        Ok(price) => done(answer, price as i64, 0, 0),
+        Err(why) => refused(answer, why, 0),
     }
 }
 
@@ -65,8 +66,8 @@ pub extern "C" fn platelayer_move(book: &[u8], side: &[u8], module: u32, answer:
     ensures { answer.new ≡ move_told book.now side.now «module» }
 {
     match side::change(book, side, module) {
-        side::Moved::Change(change) => done(answer, change, 0, 0),
-        side::Moved::Refused(why) => refused(answer, why, 0),
+        Ok(change) => done(answer, change, 0, 0),
+        Err(refusal) => refused(answer, refusal, 0),
     }
 }
 
@@ -82,8 +83,8 @@ pub extern "C" fn platelayer_split(
     ensures { SplitTold book.now (buffers near.old far.old flow.old) (buffers near.new far.new flow.new) answer.new }
 {
     match split::split(book, near, far, flow) {
-        split::Parted::Price(price) => done(answer, price as i64, 0, 0),
-        split::Parted::Refused(why) => refused(answer, why, 0),
+        Ok(cheapest) => done(answer, cheapest as i64, 0, 0),
+        Err(why) => refused(answer, why, 0),
     }
 }
 
@@ -99,8 +100,8 @@ pub extern "C" fn platelayer_check(
     ensures { answer.new ≡ check_told book.now side.now flow.now price }
 {
     match audit::check(book, side, flow, price) {
-        audit::Checked::Accepted => done(answer, 0, 0, 0),
-        audit::Checked::Refused(why) => refused(answer, why, 0),
+        Ok(()) => done(answer, 0, 0, 0),
+        Err(why) => refused(answer, why, 0),
     }
 }
 
@@ -134,8 +135,8 @@ pub extern "C" fn platelayer_walk(
     ensures { WalkTold book.now (gate_of gate a b) side.old rows.old side.new rows.new answer.new }
 {
     match walk::walk(book, gate_of(gate, a, b), side, rows) {
-        walk::Answered::Done { price, rounds } => done(answer, price as i64, rounds as i64, 0),
-        walk::Answered::Stuck(rounds) => refused(answer, Refusal::Stuck, rounds as i64),
-        walk::Answered::Refused(why) => refused(answer, why, 0),
+        Ok(d) => done(answer, d.price as i64, d.rounds as i64, 0),
+        Err(NotDone::Stuck(rounds)) => refused(answer, Refusal::Stuck, rounds as i64),
+        Err(NotDone::Refused(why)) => refused(answer, why, 0),
     }
 }

@@ -1,7 +1,8 @@
 -- What each call tells on a book, by plain trial (`trial`). It is so by the call's statement, whatever the book (`trial_tells`), and on small books it computes. Assumes nothing.
+use Rattle.std.specs.Prelude.{Result, Ok, Err}
 use mathlib.Core.Path.{◌≡◌, refl, sym, ap, ◌∙◌}
 use mathlib.Core.Bool.{Bool, true, false, not, true≢false}
-use mathlib.Core.List.{List, []}
+use mathlib.Core.List.{List, [], ◌∷◌, ◌++◌, map}
 use Prim.Native.Nat.{ℕ, suc}
 use native.Mathlib.Omega.{arith}
 use lib.Dec.{T}
@@ -18,8 +19,6 @@ use Rattle.book.specs.Format.{modules, area, mark}
 use Rattle.book.specs.Checks.{book_of, read_of}
 use Rattle.book.specs.Cards.{card_of, nets_of}
 use Rattle.book.specs.declared.Book.{Book}
-use Rattle.book.specs.declared.Reading.{Reading}
-use Rattle.book.specs.declared.Reading.TheVariants.{Good, Refused}
 use Rattle.book.specs.declared.Refusal.{Refusal}
 use Rattle.book.specs.declared.Refusal.TheVariants as refusal
 use Rattle.book.proofs.CardLaws.{card_valid}
@@ -31,8 +30,6 @@ use Rattle.audit.specs.Checker as checker
 use Rattle.split.specs.Splits as splits
 use Rattle.split.specs.Splits.{Buffers, Split}
 use Rattle.split.specs.Verdicts as verdicts
-use Rattle.split.specs.declared.Parted.{Parted}
-use Rattle.split.specs.declared.Parted.TheVariants as parted
 use Rattle.split.proofs.Answers.{split_tells, split_prices, refuses_split}
 use Rattle.split.proofs.Held.{room_of}
 use Rattle.split.proofs.Least.{near_price}
@@ -42,10 +39,10 @@ use Rattle.gate.specs.declared.Verdict.{Verdict}
 use Rattle.walk.specs.declared.Row.{Row}
 use Rattle.walk.specs.Walk.{Outcome, found, none_left, free_to, answer}
 use Rattle.walk.specs.Call as walks
-use Rattle.walk.specs.Call.{Walked, Comes, checked_of, written, side_bytes}
+use Rattle.walk.specs.Call.{Left, Walked, Comes, checked_of, written, side_bytes, row_bytes, rows_bytes, over}
 use Rattle.walk.proofs.Call.{walked_one}
 use Rattle.walk.proofs.Plain.{run, run_walks}
-use Rattle.starred.specs.Cases.{Call, read, price, move, check, split, walk, Parts, Rounds, Told, refused, parts, Leaves, Drawn, SplitTells, WalkTells, leaves, Tells}
+use Rattle.starred.specs.Cases.{numbers_in, bytes_in, Call, read, price, move, check, split, walk, Parts, Rounds, Told, refused, parts, Leaves, Drawn, SplitTells, WalkTells, leaves, Tells}
 use Rattle.starred.proofs.Bytes.{bytes_side, row_over}
 
 -- ---- the split
@@ -68,17 +65,17 @@ no_zero refusal.Values z = omega arith
 no_zero refusal.Stuck z = omega arith
 
 -- both sides by trial, or the reader's refusal
-abbrev parts_by : Reading → List ℕ → Parts
-parts_by (Good b) s = parts (card.price (nets_of s) (near_in (card_of s))) (side_bytes (near_in (card_of s)) (modules s)) (side_bytes (far_in (card_of s)) (modules s))
-parts_by (Refused why) s = refused split (number_of why) (place_of why)
+abbrev parts_by : Result Book Refusal → List ℕ → Parts
+parts_by (Ok b) s = parts (card.price (nets_of s) (near_in (card_of s))) (side_bytes (near_in (card_of s)) (modules s)) (side_bytes (far_in (card_of s)) (modules s))
+parts_by (Err why) s = refused split (number_of why) (place_of why)
 
 module _ (s : List ℕ) where
-  module _ (b : Book) (e : read_of s ≡ Good b) where
+  module _ (b : Book) (e : read_of s ≡ Ok b) where
     valid : Valid (card_of s)
     valid = card_valid s (sound s b e)
 
     -- by the page of meanings
-    drawn : Drawn s (parts_by (Good b) s)
+    drawn : Drawn s (parts_by (Ok b) s)
     drawn =
         let x = near_in (card_of s) in
         let y = far_in (card_of s) in
@@ -90,22 +87,22 @@ module _ (s : List ℕ) where
         }
 
     -- by the split's statement
-    good_leaves : (old new : Buffers) (r : Parted) → T (not (splits.too_short s old)) → Bytes new.near → Bytes new.far → Split s old r new → Leaves (parts_by (Good b) s) old r new
+    good_leaves : (old new : Buffers) (r : Result ℕ Refusal) → T (not (splits.too_short s old)) → Bytes new.near → Bytes new.far → Split s old r new → Leaves (parts_by (Ok b) s) old r new
     good_leaves old new r t a d k =
         let room = room_of s old (sound s b e) (T_false _ t) in
         let p = split_prices s old new r (b, e) room k in
-        let k' : Split s old (parted.Price p.at_price) new = rw p.answer at k in
+        let k' : Split s old (Ok p.at_price) new = rw p.answer at k in
         let h = (split_tells s old new p.at_price k').holds.solved in
         let near = near_one (card_of s) (side_of new.near) (near_in (card_of s)) h.near_side (near_tried (card_of s) valid) in
         let far = far_one (card_of s) (side_of new.far) (far_in (card_of s)) h.far_side (far_tried (card_of s) valid) in
         let q : p.at_price ≡ card.price (nets_of s) (near_in (card_of s)) = sym (near_price s old new p.at_price k') ∙ price_alike (card_of s) valid (side_of new.near) (near_in (card_of s)) near in
         record {
-          numbers = ap splits.numbers_of (p.answer ∙ ap parted.Price q);
+          numbers = ap splits.numbers_of (p.answer ∙ ap Ok q);
           near = row_over (modules s) old.near new.near (near_in (card_of s)) a room.for_near h.near_row near;
           far = row_over (modules s) old.far new.far (far_in (card_of s)) d room.for_far h.far_row far;
         }
 
-  refused_leaves : (why : Refusal) → read_of s ≡ Refused why → (old new : Buffers) (r : Parted) → Split s old r new → Leaves (parts_by (Refused why) s) old r new
+  refused_leaves : (why : Refusal) → read_of s ≡ Err why → (old new : Buffers) (r : Result ℕ Refusal) → Split s old r new → Leaves (parts_by (Err why) s) old r new
   refused_leaves why e old new r k =
       let h = refuses_split s old new r (verdicts.reader e) k in
       record { numbers = ap splits.numbers_of h.refused; near = ap (λ (b : Buffers). b.near) h.kept; far = ap (λ (b : Buffers). b.far) h.kept }
@@ -113,9 +110,9 @@ module _ (s : List ℕ) where
   split_tried : SplitTells s (parts_by (read_of s) s)
   split_tried = go (read_of s) refl
     where
-      go : (r : Reading) → read_of s ≡ r → SplitTells s (parts_by r s)
-      go (Good b) e = record { every = good_leaves b e; page = λ z. drawn b e }
-      go (Refused why) e = record { every = λ old new r t a d. refused_leaves why e old new r; page = λ z. absurd (no_zero why z) }
+      go : (r : Result Book Refusal) → read_of s ≡ r → SplitTells s (parts_by r s)
+      go (Ok b) e = record { every = good_leaves b e; page = λ z. drawn b e }
+      go (Err why) e = record { every = λ old new r t a d. refused_leaves why e old new r; page = λ z. absurd (no_zero why z) }
 
 -- ---- the walk
 
@@ -126,7 +123,7 @@ side_in n none_left = []
 
 -- what the rows and the outcome of a walk tell
 abbrev ran : List ℕ → List Row × Outcome → Rounds
-ran s p = record { numbers = answer (card_of s) p.0 p.1; rows = p.0; side = side_in (modules s) p.1 }
+ran s p = record { numbers = answer (card_of s) p.0 p.1; rows = map numbers_in p.0; side = side_in (modules s) p.1 }
 
 -- what the gate says of an area
 abbrev said : List ℕ → Gate → ℕ → Verdict
@@ -136,31 +133,37 @@ abbrev run_of : List ℕ → Gate → List Row × Outcome
 run_of s g = run (card_of s) (area s) (said s g) (suc (free_to (mark s) (modules s))) (mark s)
 
 -- the walk by trial, or the refusal of the reader or of the gate
-abbrev rounds_by : Reading → Bool → List ℕ → Gate → Rounds
-rounds_by (Good b) true s g = ran s (run_of s g)
-rounds_by (Good b) false s g = refused (walk g) (number_of refusal.Gate) (place_of refusal.Gate)
-rounds_by (Refused why) good s g = refused (walk g) (number_of why) (place_of why)
+abbrev rounds_by : Result Book Refusal → Bool → List ℕ → Gate → Rounds
+rounds_by (Ok b) true s g = ran s (run_of s g)
+rounds_by (Ok b) false s g = refused (walk g) (number_of refusal.Gate) (place_of refusal.Gate)
+rounds_by (Err why) good s g = refused (walk g) (number_of why) (place_of why)
+
+-- the rows of a walk and their numbers are the same bytes
+rows_same : (rs : List Row) → rows_bytes rs ≡ bytes_in (map numbers_in rs)
+unfolding rows_bytes row_bytes bytes_in
+rows_same [] = refl
+rows_same (r ∷ rs) = ap (λ (b : List ℕ). row_bytes r ++ b) (rows_same rs)
 
 module _ (s : List ℕ) (g : Gate) (side rows : List ℕ) (t : T (not (walks.too_short s side rows))) where
   ran_leaves : (rs : List Row) (o : Outcome) → written s rs o side rows ≡ leaves (ran s (rs, o)) side rows
-  ran_leaves rs (found x) = refl
-  ran_leaves rs none_left = refl
+  ran_leaves rs (found x) = ap (λ (b : List ℕ). record { answer = answer (card_of s) rs (found x); side = over (side_bytes x (modules s)) side; rows = over b rows }) (rows_same rs)
+  ran_leaves rs none_left = ap (λ (b : List ℕ). record { answer = answer (card_of s) rs none_left; side = side; rows = over b rows }) (rows_same rs)
 
   walk_allows : Walked s g side rows (leaves (rounds_by (read_of s) (good_gate g) s g) side rows)
-  unfolding checked_of walks.rows_bytes
+  unfolding checked_of bytes_in
   walk_allows = go (read_of s) (good_gate g) (walks.too_short s side rows) refl (T_false _ t)
     where
-      go : (r : Reading) (d w : Bool) → read_of s ≡ r → w ≡ false →
-          Comes (walks.if_read r (walks.refuse_if (not d) refusal.Gate (walks.refuse_if w refusal.Buffer (Good (book_of s))))) s g side rows (leaves (rounds_by r d s g) side rows)
-      go (Good b) true false e u = record {
+      go : (r : Result Book Refusal) (d w : Bool) → read_of s ≡ r → w ≡ false →
+          Comes (walks.if_read r (walks.refuse_if (not d) refusal.Gate (walks.refuse_if w refusal.Buffer (Ok (book_of s))))) s g side rows (leaves (rounds_by r d s g) side rows)
+      go (Ok b) true false e u = record {
         rounds = (run_of s g).0;
         outcome = (run_of s g).1;
         walks = run_walks (card_of s) (area s) (said s g) (suc (free_to (mark s) (modules s))) (mark s) (card_valid s (sound s b e)) (omega arith);
         left = sym (ran_leaves (run_of s g).0 (run_of s g).1);
       }
-      go (Good b) true true e u = absurd (true≢false u)
-      go (Good b) false w e u = refl
-      go (Refused why) d w e u = refl
+      go (Ok b) true true e u = absurd (true≢false u)
+      go (Ok b) false w e u = refl
+      go (Err why) d w e u = refl
 
 walk_tried : (s : List ℕ) (g : Gate) → WalkTells s g (rounds_by (read_of s) (good_gate g) s g)
 walk_tried s g side rows a t = (λ h. walked_one s g side rows a (leaves (rounds_by (read_of s) (good_gate g) s g) side rows) h (walk_allows s g side rows t), λ h. rw h (walk_allows s g side rows t))

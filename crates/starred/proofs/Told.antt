@@ -7,9 +7,8 @@ use Rattle.side.specs.Moves as moves
 use Rattle.audit.specs.Checker as checker
 use Rattle.split.specs.Splits as splits
 use Rattle.gate.specs.declared.Band.{Band}
-use Rattle.walk.specs.declared.Row.{Row}
 use Rattle.walk.specs.Walk.{Answer}
-use Rattle.starred.specs.Cases.{Call, read, price, move, check, split, walk, Parts, Rounds, Told}
+use Rattle.starred.specs.Cases.{RowNumbers, Call, read, price, move, check, split, walk, Parts, Rounds, Told}
 use Rattle.starred.proofs.Tests.{Test, number, integer, pair, list, by, float}
 
 abbrev two : Test (ℕ × ℕ)
@@ -38,7 +37,7 @@ split_numbers = by (λ n. (n.number, (n.place, n.price))) (λ p. record { number
 abbrev walk_numbers : Test Answer
 walk_numbers = by (λ n. ((n.number, n.place), (n.price, n.rounds))) (λ p. record { number = p.0.0; place = p.0.1; price = p.1.0; rounds = p.1.1 }) (λ n. refl) four
 
-abbrev walk_row : Test Row
+abbrev walk_row : Test RowNumbers
 walk_row = by (λ r. ((r.price, r.area), (r.taken, r.way))) (λ p. record { price = p.0.0; area = p.0.1; taken = p.1.0; way = p.1.1 }) (λ r. refl) four
 
 abbrev split_parts : Test Parts

@@ -1,5 +1,6 @@
 -- A case of the desk's table: a book, a call on it and what is expected of it, in document 01's numbers; and what it means that a case holds. This page holds definitions only.
-use Rattle.std.specs.Prelude.{◌≡◌, ◌↔◌, not, List, [], ◌∷◌, ℕ, T, ℤ, pos, Float}
+use Rattle.book.specs.declared.Refusal.{Refusal}
+use Rattle.std.specs.Prelude.{◌≡◌, ◌↔◌, not, List, [], ◌∷◌, ◌++◌, ℕ, T, ℤ, pos, Float, Result}
 use Rattle.line.specs.Card as card
 use Rattle.line.specs.Card.{Near, Far, whole_area}
 use Rattle.book.specs.Format.{area}
@@ -12,13 +13,12 @@ use Rattle.side.specs.Moves as moves
 use Rattle.audit.specs.Checker as checker
 use Rattle.split.specs.Splits as splits
 use Rattle.split.specs.Splits.{Buffers, Split}
-use Rattle.split.specs.declared.Parted.{Parted}
 use Rattle.gate.specs.Gates.{good_gate, band_of}
 use Rattle.gate.specs.declared.Gate.{Gate}
 use Rattle.walk.specs.declared.Row.{Row}
-use Rattle.walk.specs.Walk.{Answer}
+use Rattle.walk.specs.Walk.{Answer, taken_of, way_of}
 use Rattle.walk.specs.Call as walks
-use Rattle.walk.specs.Call.{Left, Walked, rows_bytes, over}
+use Rattle.walk.specs.Call.{Left, Walked, little_endian, over}
 
 -- ---- What is asked, and what is told.
 
@@ -37,10 +37,25 @@ pub record Parts : Type 0 where
   pub near : List ℕ
   pub far : List ℕ
 
+-- A row of the walk in its four numbers: price, area of X, module taken, way.
+pub record RowNumbers : Type 0 where
+  pub price : ℕ
+  pub area : ℕ
+  pub taken : ℕ
+  pub way : ℕ
+
+abbrev pub numbers_in : Row → RowNumbers
+numbers_in r = record { price = r.price; area = r.area; taken = taken_of r.turn; way = way_of r.turn }
+
+-- Rows of numbers as bytes.
+unfoldable pub bytes_in : List RowNumbers → List ℕ
+bytes_in [] = []
+bytes_in (r ∷ rs) = (little_endian 4 r.price ++ little_endian 4 r.area ++ little_endian 2 r.taken ++ little_endian 2 r.way) ++ bytes_in rs
+
 -- A walk: the numbers of its answer, its rows, and the bytes of its side.
 pub record Rounds : Type 0 where
   pub numbers : Answer
-  pub rows : List Row
+  pub rows : List RowNumbers
   pub side : List ℕ
 
 -- What a call tells: document 01's numbers of its answer, and what it writes.
@@ -68,11 +83,11 @@ accepted = record { number = 0; place = 0 }
 abbrev pub parts : ℕ → List ℕ → List ℕ → Parts
 parts p near far = record { numbers = record { number = 0; place = 0; price = p }; near = near; far = far }
 
-abbrev pub found : ℕ → ℕ → List Row → List ℕ → Rounds
+abbrev pub found : ℕ → ℕ → List RowNumbers → List ℕ → Rounds
 found p n rows side = record { numbers = record { number = 0; place = 0; price = p; rounds = n }; rows = rows; side = side }
 
 -- With 14 only the round rows are written, and the count of rounds is the one other number.
-abbrev pub stuck : ℕ → List Row → Rounds
+abbrev pub stuck : ℕ → List RowNumbers → Rounds
 stuck n rows = record { numbers = record { number = 14; place = 0; price = 0; rounds = n }; rows = rows; side = [] }
 
 -- With 1 to 13 nothing is written and every other number in the answer is 0.
@@ -95,7 +110,7 @@ pub data Case : Type 0 where
 -- ---- When it holds.
 
 -- What a split leaves: the numbers, and both sides written over what their buffers held.
-pub record Leaves (t : Parts) (old : Buffers) (r : Parted) (new : Buffers) : Type 0 where
+pub record Leaves (t : Parts) (old : Buffers) (r : Result ℕ Refusal) (new : Buffers) : Type 0 where
   pub numbers : splits.numbers_of r ≡ t.numbers
   pub near : new.near ≡ over t.near old.near
   pub far : new.far ≡ over t.far old.far
@@ -108,12 +123,12 @@ pub record Drawn (s : List ℕ) (t : Parts) : Type 0 where
 
 -- Whatever the lent buffers, where none is short: each result that the split's statement allows leaves this. And where the split is done, this is so by the page of meanings.
 pub record SplitTells (s : List ℕ) (t : Parts) : Type 0 where
-  pub every : (old new : Buffers) (r : Parted) → T (not (splits.too_short s old)) → Bytes new.near → Bytes new.far → Split s old r new → Leaves t old r new
+  pub every : (old new : Buffers) (r : Result ℕ Refusal) → T (not (splits.too_short s old)) → Bytes new.near → Bytes new.far → Split s old r new → Leaves t old r new
   pub page : t.numbers.number ≡ 0 → Drawn s t
 
 -- What a walk leaves: the numbers, and the side and the rows written over what their buffers held.
 abbrev pub leaves : Rounds → List ℕ → List ℕ → Left
-leaves t side rows = record { answer = t.numbers; side = over t.side side; rows = over (rows_bytes t.rows) rows }
+leaves t side rows = record { answer = t.numbers; side = over t.side side; rows = over (bytes_in t.rows) rows }
 
 -- Whatever the lent buffers, where none is short: the walk's statement allows this, and nothing else.
 abbrev pub WalkTells : List ℕ → Gate → Rounds → Type 0

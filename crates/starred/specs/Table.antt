@@ -4,8 +4,7 @@ use Rattle.std.specs.Float.{nan, fin}
 use Rattle.gate.specs.Gates.{dbl}
 use Rattle.gate.specs.declared.Gate.{Gate}
 use Rattle.gate.specs.declared.Gate.TheVariants.{Open, Share, Bounds}
-use Rattle.walk.specs.declared.Row.{Row}
-use Rattle.starred.specs.Cases.{read, price, move, check, split, walk, counts, costs, changes, accepted, parts, found, stuck, Case, tells, refuses, works_out}
+use Rattle.starred.specs.Cases.{RowNumbers, read, price, move, check, split, walk, counts, costs, changes, accepted, parts, found, stuck, Case, tells, refuses, works_out}
 
 -- ---- The books.
 
@@ -76,7 +75,7 @@ abbrev pub eighths : ℕ → Float
 eighths n = fin false n (negsuc 2)
 
 -- A row of the walk: price, area of X, module taken, way.
-abbrev pub row : ℕ → ℕ → ℕ → ℕ → Row
+abbrev pub row : ℕ → ℕ → ℕ → ℕ → RowNumbers
 row p a m w = record { price = p; area = a; taken = m; way = w }
 
 -- ---- Marked * in document 01.

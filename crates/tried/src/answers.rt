@@ -1,7 +1,5 @@
 // The calls, and what is printed of their answers.
-use audit::Checked;
-use book::{Book, Reading};
-use side::{Moved, Priced};
+use book::Book;
 use std::fmt;
 use trial::Answer;
 
@@ -39,29 +37,17 @@ impl fmt::Display for Change {
 }
 
 pub fn read(book: &[u8]) -> Answer<Counts> {
-    match book::read(book) {
-        Reading::Good(counts) => Answer(Ok(Counts(counts))),
-        Reading::Refused(why) => Answer(Err(why)),
-    }
+    Answer(book::read(book).map(Counts))
 }
 
 pub fn price_of(book: &[u8], side: &[u8]) -> Answer<Price> {
-    match side::price(book, side) {
-        Priced::Price(price) => Answer(Ok(Price(price))),
-        Priced::Refused(why) => Answer(Err(why)),
-    }
+    Answer(side::price(book, side).map(Price))
 }
 
 pub fn change_of(book: &[u8], side: &[u8], m: u32) -> Answer<Change> {
-    match side::change(book, side, m) {
-        Moved::Change(change) => Answer(Ok(Change(change))),
-        Moved::Refused(why) => Answer(Err(why)),
-    }
+    Answer(side::change(book, side, m).map(Change))
 }
 
 pub fn check(book: &[u8], side: &[u8], flow: &[i32], price: u32) -> Answer<&'static str> {
-    match audit::check(book, side, flow, price) {
-        Checked::Accepted => Answer(Ok("accepted")),
-        Checked::Refused(why) => Answer(Err(why)),
-    }
+    Answer(audit::check(book, side, flow, price).map(|()| "accepted"))
 }

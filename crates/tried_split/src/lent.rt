@@ -1,7 +1,5 @@
 // The split on lent buffers that are marked all over.
-use audit::Checked;
 use book::Refusal;
-use split::Parted;
 use std::alloc::{AllocError, Global};
 use std::io;
 use trial::{Answer, Card, Modules, Refused};
@@ -27,10 +25,8 @@ struct Lent {
 
 // What the checker says of a flow with a side.
 fn check(book: &[u8], side: &[u8], flow: &[i32], price: usize) -> Answer<&'static str> {
-    match audit::check(book, side, flow, u32::try_from(price).unwrap_or(u32::MAX)) {
-        Checked::Accepted => Answer(Ok("accepted")),
-        Checked::Refused(why) => Answer(Err(why)),
-    }
+    let claim = u32::try_from(price).unwrap_or(u32::MAX);
+    Answer(audit::check(book, side, flow, claim).map(|()| "accepted"))
 }
 
 impl Lent {
@@ -44,10 +40,7 @@ impl Lent {
 
     // The call.
     fn split(&mut self, book: &[u8]) -> Result<usize, Refusal> {
-        match split::split(book, &mut self.near, &mut self.far, &mut self.flow) {
-            Parted::Price(price) => Ok(price),
-            Parted::Refused(why) => Err(why),
-        }
+        split::split(book, &mut self.near, &mut self.far, &mut self.flow)
     }
 
     // Are all marked beyond so many bytes of each side and numbers of the flow?

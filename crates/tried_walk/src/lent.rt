@@ -4,7 +4,7 @@ use gate::Gate;
 use std::alloc::{AllocError, Global};
 use std::io;
 use trial::{Card, Modules, Refused};
-use walk::Answered;
+use walk::NotDone;
 
 // What the buffers are marked with.
 const BYTE: u8 = 0xA5;
@@ -57,16 +57,18 @@ pub fn show(
     let mut lent = Lent::new(rt.alloc(), room)?;
     print!(rt; "{name}:")?;
     match walk::walk(book, gate, &mut lent.side, &mut lent.rows) {
-        Answered::Done { price, rounds } => {
+        Ok(done) => {
             print!(rt;
-                " price {price} rounds {rounds} side{}",
+                " price {} rounds {} side{}",
+                done.price,
+                done.rounds,
                 Modules::On(&lent.side, modules)
             )?;
-            let kept = lent.kept(modules.div_ceil(8), rounds);
+            let kept = lent.kept(modules.div_ceil(8), done.rounds);
             println!(rt; "{}", if kept { " tails kept" } else { " a tail lost" })?;
-            lent.print_rows(rt, rounds)
+            lent.print_rows(rt, done.rounds)
         }
-        Answered::Stuck(rounds) => {
+        Err(NotDone::Stuck(rounds)) => {
             let side = if lent.kept(0, rounds) {
                 "untouched"
             } else {
@@ -75,7 +77,7 @@ pub fn show(
             println!(rt; " ended 14 rounds {rounds} side {side}")?;
             lent.print_rows(rt, rounds)
         }
-        Answered::Refused(why) => {
+        Err(NotDone::Refused(why)) => {
             let written = if lent.kept(0, 0) {
                 "nothing"
             } else {

@@ -64,7 +64,7 @@ module _ (n : ℕ) (x : List ℕ) (small : (i : ℕ) → get_or x i 0 < 256) (en
   byte i l =
       binary_same 8 (λ j. ltb (8 * i + j) n && side_of x (8 * i + j)) (λ j. eqb (get_or x i 0 / 2 ^ j % 2) 1) (λ j u. bit i j l u) ∙ binary_bits 8 (get_or x i 0) (small i)
 
-  side_row : take (bytes_for n) x ≡ side_bytes (side_of x) n
+  pub side_row : take (bytes_for n) x ≡ side_bytes (side_of x) n
   side_row =
       let t = length-take-le (bytes_for n) x enough in
       ext_get_or 0 (take (bytes_for n) x) (side_bytes (side_of x) n) (t ∙ sym (length_listed (side_byte (side_of x) n) (bytes_for n)))

@@ -7,10 +7,10 @@ pub refused-requires : goal.refused-requires
 refused-requires c =
     let a = c.args in
     let bytes = c.type_inv.side in
-    check_place a.book.now a.side.now a.flow.now a.price c.in-Refused.why (λ i. (bytes i).fits) (sym c.check.ensures ∙ c.in-Refused.is)
+    check_place a.book.now a.side.now a.flow.now a.price c.in-Err.why (λ i. (bytes i).fits) (sym c.check.ensures ∙ c.in-Err.is)
 
-pub returns-in-Accepted : goal.returns-in-Accepted
-returns-in-Accepted c = rw (sym c.check.ensures ∙ c.in-Accepted.is) c.done.ensures
+pub returns-in-Ok : goal.returns-in-Ok
+returns-in-Ok c = rw (sym c.check.ensures ∙ c.in-Ok.is) c.done.ensures
 
-pub returns-in-Refused : goal.returns-in-Refused
-returns-in-Refused c = rw (sym c.check.ensures ∙ c.in-Refused.is) c.refused.ensures
+pub returns-in-Err : goal.returns-in-Err
+returns-in-Err c = rw (sym c.check.ensures ∙ c.in-Err.is) c.refused.ensures

@@ -11,12 +11,12 @@ pub refused-requires : goal.refused-requires
 refused-requires c =
     let a = c.args in
     let bytes = c.type_inv.side in
-    move_place a.book.now a.side.now a.«module» c.in-Refused.why (λ i. (bytes i).fits) (sym c.change.ensures ∙ c.in-Refused.is)
+    move_place a.book.now a.side.now a.«module» c.in-Err.refusal (λ i. (bytes i).fits) (sym c.change.ensures ∙ c.in-Err.is)
 
-pub returns-in-Change : goal.returns-in-Change
-returns-in-Change c =
-    let f : SFits w64 c.in-Change.change = search rules in
-    rw (sym c.change.ensures ∙ c.in-Change.is) (c.done.ensures ∙ rw (to_z-of_z w64 c.in-Change.change f))
+pub returns-in-Ok : goal.returns-in-Ok
+returns-in-Ok c =
+    let f : SFits w64 c.in-Ok.change = search rules in
+    rw (sym c.change.ensures ∙ c.in-Ok.is) (c.done.ensures ∙ rw (to_z-of_z w64 c.in-Ok.change f))
 
-pub returns-in-Refused : goal.returns-in-Refused
-returns-in-Refused c = rw (sym c.change.ensures ∙ c.in-Refused.is) c.refused.ensures
+pub returns-in-Err : goal.returns-in-Err
+returns-in-Err c = rw (sym c.change.ensures ∙ c.in-Err.is) c.refused.ensures

@@ -8,26 +8,26 @@ use mir.Syntax.{w64}
 use Rattle.desk.proofs.Values.{fits, price_few}
 use Rattle.desk.proofs.Places.{price_place}
 use Rattle.desk.proofs.platelayer_price.Goals as goal
-use Rattle.desk.proofs.platelayer_price.Goals.{In-Price}
+use Rattle.desk.proofs.platelayer_price.Goals.{In-Ok}
 
-price_fits : (c : In-Price) → SFits w64 (pos c.in-Price.price)
+price_fits : (c : In-Ok) → SFits w64 (pos c.in-Ok.price)
 price_fits c =
     let a = c.args in
     let bytes = c.type_inv.book in
-    fits c.in-Price.price (omega (arith, price_few a.book.now a.side.now c.in-Price.price (λ i. (bytes i).fits) (sym c.price.ensures ∙ c.in-Price.is)))
+    fits c.in-Ok.price (omega (arith, price_few a.book.now a.side.now c.in-Ok.price (λ i. (bytes i).fits) (sym c.price.ensures ∙ c.in-Ok.is)))
 
 pub overflow_cast-price : goal.overflow_cast-price
-overflow_cast-price c = price_fits (goal.at.overflow_cast-price c).In-Price
+overflow_cast-price c = price_fits (goal.at.overflow_cast-price c).In-Ok
 
 pub refused-requires : goal.refused-requires
 refused-requires c =
     let a = c.args in
     let bytes = c.type_inv.side in
-    price_place a.book.now a.side.now c.in-Refused.why (λ i. (bytes i).fits) (sym c.price.ensures ∙ c.in-Refused.is)
+    price_place a.book.now a.side.now c.in-Err.why (λ i. (bytes i).fits) (sym c.price.ensures ∙ c.in-Err.is)
 
-pub returns-in-Price : goal.returns-in-Price
-returns-in-Price c =
-    rw (sym c.price.ensures ∙ c.in-Price.is) (c.done.ensures ∙ rw (to_z-of_z w64 (pos c.in-Price.price) (price_fits (goal.at.returns-in-Price c).In-Price)))
+pub returns-in-Ok : goal.returns-in-Ok
+returns-in-Ok c =
+    rw (sym c.price.ensures ∙ c.in-Ok.is) (c.done.ensures ∙ rw (to_z-of_z w64 (pos c.in-Ok.price) (price_fits (goal.at.returns-in-Ok c).In-Ok)))
 
-pub returns-in-Refused : goal.returns-in-Refused
-returns-in-Refused c = rw (sym c.price.ensures ∙ c.in-Refused.is) c.refused.ensures
+pub returns-in-Err : goal.returns-in-Err
+returns-in-Err c = rw (sym c.price.ensures ∙ c.in-Err.is) c.refused.ensures

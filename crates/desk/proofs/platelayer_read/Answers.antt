@@ -8,38 +8,38 @@ use mir.Syntax.{w64}
 use Rattle.desk.proofs.Values.{fits, counts_few}
 use Rattle.desk.proofs.Places.{read_place}
 use Rattle.desk.proofs.platelayer_read.Goals as goal
-use Rattle.desk.proofs.platelayer_read.Goals.{In-Good}
+use Rattle.desk.proofs.platelayer_read.Goals.{In-Ok}
 
-modules_fit : (c : In-Good) → SFits w64 (pos c.in-Good.b.modules)
+modules_fit : (c : In-Ok) → SFits w64 (pos c.in-Ok.b.modules)
 modules_fit c =
-    fits c.in-Good.b.modules (omega (arith, (counts_few c.args.book.now c.in-Good.b (sym c.read.ensures ∙ c.in-Good.is)).modules_few))
+    fits c.in-Ok.b.modules (omega (arith, (counts_few c.args.book.now c.in-Ok.b (sym c.read.ensures ∙ c.in-Ok.is)).modules_few))
 
-nets_fit : (c : In-Good) → SFits w64 (pos c.in-Good.b.nets)
+nets_fit : (c : In-Ok) → SFits w64 (pos c.in-Ok.b.nets)
 nets_fit c =
-    fits c.in-Good.b.nets (omega (arith, (counts_few c.args.book.now c.in-Good.b (sym c.read.ensures ∙ c.in-Good.is)).nets_few))
+    fits c.in-Ok.b.nets (omega (arith, (counts_few c.args.book.now c.in-Ok.b (sym c.read.ensures ∙ c.in-Ok.is)).nets_few))
 
-pins_fit : (c : In-Good) → SFits w64 (pos c.in-Good.b.pins)
+pins_fit : (c : In-Ok) → SFits w64 (pos c.in-Ok.b.pins)
 pins_fit c =
-    fits c.in-Good.b.pins (omega (arith, (counts_few c.args.book.now c.in-Good.b (sym c.read.ensures ∙ c.in-Good.is)).pins_few))
+    fits c.in-Ok.b.pins (omega (arith, (counts_few c.args.book.now c.in-Ok.b (sym c.read.ensures ∙ c.in-Ok.is)).pins_few))
 
 pub overflow_cast-b : goal.overflow_cast-b
-overflow_cast-b c = modules_fit (goal.at.overflow_cast-b c).In-Good
+overflow_cast-b c = modules_fit (goal.at.overflow_cast-b c).In-Ok
 
-pub overflow_cast-b-in-Good : goal.overflow_cast-b-in-Good
-overflow_cast-b-in-Good c = nets_fit (goal.at.overflow_cast-b-in-Good c).In-Good
+pub overflow_cast-b-in-Ok : goal.overflow_cast-b-in-Ok
+overflow_cast-b-in-Ok c = nets_fit (goal.at.overflow_cast-b-in-Ok c).In-Ok
 
-pub overflow_cast-b-in-Good-2 : goal.overflow_cast-b-in-Good-2
-overflow_cast-b-in-Good-2 c = pins_fit (goal.at.overflow_cast-b-in-Good-2 c).In-Good
+pub overflow_cast-b-in-Ok-2 : goal.overflow_cast-b-in-Ok-2
+overflow_cast-b-in-Ok-2 c = pins_fit (goal.at.overflow_cast-b-in-Ok-2 c).In-Ok
 
 pub refused-requires : goal.refused-requires
-refused-requires c = read_place c.args.book.now (sym c.read.ensures ∙ c.in-Refused.is)
+refused-requires c = read_place c.args.book.now (sym c.read.ensures ∙ c.in-Err.is)
 
-pub returns-in-Good : goal.returns-in-Good
-returns-in-Good c =
-    let m = to_z-of_z w64 (pos c.in-Good.b.modules) (modules_fit (goal.at.returns-in-Good c).In-Good) in
-    let n = to_z-of_z w64 (pos c.in-Good.b.nets) (nets_fit (goal.at.returns-in-Good c).In-Good) in
-    let p = to_z-of_z w64 (pos c.in-Good.b.pins) (pins_fit (goal.at.returns-in-Good c).In-Good) in
-    rw (sym c.read.ensures ∙ c.in-Good.is) (c.done.ensures ∙ rw (m, n, p))
+pub returns-in-Ok : goal.returns-in-Ok
+returns-in-Ok c =
+    let m = to_z-of_z w64 (pos c.in-Ok.b.modules) (modules_fit (goal.at.returns-in-Ok c).In-Ok) in
+    let n = to_z-of_z w64 (pos c.in-Ok.b.nets) (nets_fit (goal.at.returns-in-Ok c).In-Ok) in
+    let p = to_z-of_z w64 (pos c.in-Ok.b.pins) (pins_fit (goal.at.returns-in-Ok c).In-Ok) in
+    rw (sym c.read.ensures ∙ c.in-Ok.is) (c.done.ensures ∙ rw (m, n, p))
 
-pub returns-in-Refused : goal.returns-in-Refused
-returns-in-Refused c = rw (sym c.read.ensures ∙ c.in-Refused.is) c.refused.ensures
+pub returns-in-Err : goal.returns-in-Err
+returns-in-Err c = rw (sym c.read.ensures ∙ c.in-Err.is) c.refused.ensures
