@@ -136,7 +136,9 @@ impl Draft {
 
     // The book: its contents and the three bodies.
     pub fn book(&self, alloc: Global) -> Result<Vec<u8>, AllocError>
-        ensures { IfOk result (λ v. v.items ≡ contents (vec_len self.now.modules) (vec_len self.now.nets) (vec_len self.now.pins) ++ self.now.modules.items ++ self.now.nets.items ++ self.now.pins.items) }
+        ensures { IfOk result (λ v. v.items ≡
+            contents (vec_len self.now.modules) (vec_len self.now.nets) (vec_len self.now.pins)
+            ++ self.now.modules.items ++ self.now.nets.items ++ self.now.pins.items) }
     {
         let nets_at = self.modules.len().saturating_add(32);
         let pins_at = nets_at.saturating_add(self.nets.len());

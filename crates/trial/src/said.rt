@@ -1,6 +1,6 @@
 // What is printed of an answer.
-ghost use Rattle.std.specs.Prelude.{Some};
-ghost use Rattle.trial.specs.Said.{refused_text, answer_text};
+ghost use Rattle.std.specs.Prelude.{◌≡◌, Some};
+ghost use Rattle.trial.specs.Said.{refused_text, answer_text, on, off, modules_text};
 
 use book::Refusal;
 use std::fmt;
@@ -39,27 +39,36 @@ pub enum Modules<'a> {
     AllBut(&'a [u8], usize),
 }
 
-fn is_on(side: &[u8], m: usize) -> Option<bool> {
-    if m / 8 < side.len() {
-        Some(side::inside(side, m))
-    } else {
-        None
-    }
+fn is_on(side: &[u8], m: usize) -> bool
+    ensures { result ≡ on side.now m }
+{
+    m / 8 < side.len() && side::inside(side, m)
+}
+
+fn is_off(side: &[u8], m: usize) -> bool
+    ensures { result ≡ off side.now m }
+{
+    m / 8 < side.len() && !side::inside(side, m)
 }
 
 impl fmt::Display for Modules<'_> {
+    ghost output = { λ x. Some (modules_text x) };
+
     fn fmt<W: fmt::Write>(&self, f: &mut fmt::Formatter<W>) -> fmt::Result {
         match *self {
             Modules::On(side, count) => {
-                let whole = count.div_ceil(8).saturating_mul(8);
-                for m in (0..whole).filter(|m| is_on(side, *m) == Some(true)) {
-                    write!(f, " {m}")?;
+                for m in 0..count.div_ceil(8).saturating_mul(8) {
+                    if is_on(side, m) {
+                        write!(f, " {m}")?;
+                    }
                 }
             }
             Modules::AllBut(side, count) => {
                 write!(f, " all but")?;
-                for m in (0..count).filter(|m| is_on(side, *m) == Some(false)) {
-                    write!(f, " {m}")?;
+                for m in 0..count {
+                    if is_off(side, m) {
+                        write!(f, " {m}")?;
+                    }
                 }
             }
         }

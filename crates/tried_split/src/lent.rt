@@ -9,7 +9,7 @@ const BYTE: u8 = 0xA5;
 
 const NUMBER: i32 = 77;
 
-// From so many modules on a book is large: its far side is printed by what it lacks, and the checker is left out, to stay within the interpreter's steps.
+// From so many modules on a book is large: its far side is printed by what it lacks, and the checker, which takes an interpreter long, is left out.
 const LARGE: usize = 64;
 
 // The lengths of the buffers: bytes of near, bytes of far, numbers of the flow.
