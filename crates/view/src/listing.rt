@@ -2,14 +2,15 @@
 ghost use Rattle.std.specs.Prelude.{◌≡◌, ◌+◌, ◌≤◌, length, drop};
 ghost use Rattle.book.specs.Format.{modules, u16};
 ghost use Rattle.book.specs.Steps.{step_by};
-ghost use Rattle.side.specs.Given.{Lent};
 ghost use Rattle.side.specs.Sides.{side_of, SpareClear};
 ghost use Rattle.view.specs.Text.{side_text, split_text, refused_text};
 ghost use Rattle.view.specs.Puts.{Put, Rows, Ample, Listing};
 ghost use Rattle.view.specs.Listing.{side_room, room, Seen, Writes};
 
 use crate::text;
+use book::netlist::Netlist;
 use book::{Book, Cursor, Refusal, Step};
+use side::Sided;
 
 // The bytes of a side of the most modules.
 const SIDE: usize = (Book::MODULES + 7) / 8;
@@ -31,25 +32,30 @@ pub fn step_at(book: &[u8], at: usize) -> Step
 }
 
 // A side of the book: how many modules it has, their area, and which they are.
-fn put_side(out: &mut [u8], at: usize, name: &[u8], book: &[u8], side: &[u8]) -> usize
-    requires { Lent book.now side.now × SpareClear side.now (modules book.now) × (length name.now ≤ 5) × (at + side_room ≤ length out.old) }
-    ensures { Put (side_text name.now book.now (side_of side.now)) at out.old result out.new × (result ≤ at + side_room) }
+fn put_side(out: &mut [u8], at: usize, name: &[u8], side: Sided<'_>) -> usize
+    requires { SpareClear side.bits.now (modules side.netlist.bytes.now) × (length name.now ≤ 5) × (at + side_room ≤ length out.old) }
+    ensures { Put (side_text name.now side.entry.netlist.bytes.now (side_of side.entry.bits.now)) at out.old result out.new × (result ≤ at + side_room) }
 {
-    let count = side::count(book, side);
-    let area = side::area(book, side);
+    let count = side.count();
+    let area = side.area();
     let then = text::put_pair(&mut *out, at, name, count, b" modules area ", area);
-    text::put_modules(out, then, side, book::modules(book))
+    text::put_modules(out, then, side.bits, side.netlist.modules())
 }
 
 // A book that is split: its price, its near side and its far side.
-fn put_split(out: &mut [u8], book: &[u8], price: usize, near: &[u8], far: &[u8]) -> usize
-    requires { Rows book.now near.now far.now × (room ≤ length out.old) }
-    ensures { Put (split_text book.now price (side_of near.now) (side_of far.now)) 0 out.old result out.new }
+fn put_split(out: &mut [u8], netlist: Netlist<'_>, price: usize, near: &[u8], far: &[u8]) -> usize
+    requires { Rows netlist.bytes.now near.now far.now × (room ≤ length out.old) }
+    ensures { Put (split_text netlist.entry.bytes.now price (side_of near.now) (side_of far.now)) 0 out.old result out.new }
 {
+    let near = Sided {
+        netlist,
+        bits: near,
+    };
+    let far = Sided { netlist, bits: far };
     let end = text::put_number(&mut *out, 0, b"price ", price);
     let first = text::put_text(&mut *out, end, b"\n");
-    let second = put_side(&mut *out, first, b"near ", book, near);
-    put_side(out, second, b"far ", book, far)
+    let second = put_side(&mut *out, first, b"near ", near);
+    put_side(out, second, b"far ", far)
 }
 
 // A refusal: its number and its place.
@@ -68,7 +74,10 @@ fn list_in(book: &[u8], near: &mut [u8], far: &mut [u8], flow: &mut [i32], out: 
     ensures { Listing book.now out.old result out.new }
 {
     match split::split(book, &mut *near, &mut *far, flow) {
-        Ok(price) => put_split(out, book, price, &*near, &*far),
+        Ok(price) => {
+            let netlist = Netlist { bytes: book };
+            put_split(out, netlist, price, &*near, &*far)
+        }
         Err(why) => put_refusal(out, why),
     }
 }

@@ -23,7 +23,7 @@ put_side-second-requires c =
     let u = c.put_number-end in
     let v = c.put_text-first in
     let head = price_room c.args.price c.ranges.price.fits in
-    (p.0.near_lent, p.0.near_spare, omega arith, omega (arith, p.1, head, u.ensures.after, v.ensures.after, u.auto.out, v.auto.out))
+    (p.0.near_spare, omega arith, omega (arith, p.1, head, u.ensures.after, v.ensures.after, u.auto.out, v.auto.out))
 
 pub put_side-requires : goal.put_side-requires
 unfolding bytes
@@ -33,7 +33,7 @@ put_side-requires c =
     let v = c.put_text-first in
     let w = c.put_side-second in
     let head = price_room c.args.price c.ranges.price.fits in
-    (p.0.far_lent, p.0.far_spare, omega arith, omega (arith, p.1, head, u.ensures.after, v.ensures.after, w.ensures.1, u.auto.out, v.auto.out, w.auto.out))
+    (p.0.far_spare, omega arith, omega (arith, p.1, head, u.ensures.after, v.ensures.after, w.ensures.1, u.auto.out, v.auto.out, w.auto.out))
 
 pub returns : goal.returns
 unfolding bytes split_text
