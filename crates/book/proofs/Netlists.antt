@@ -1,5 +1,5 @@
 -- A book that reads is sound, and a sound book reads. Assumes nothing.
-use Rattle.std.specs.Prelude.{◌≡◌, true, Bool, List, ℕ, Result, Ok, Err, is_ok, refl, false}
+use Rattle.std.specs.Prelude.{◌≡◌, true, List, ℕ, Result, Ok, Err, is_ok, refl}
 use mathlib.Core.Bool.{true≢false}
 use mathlib.Core.Path.{sym}
 use Rattle.book.specs.declared.Book.{Book}

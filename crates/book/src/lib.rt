@@ -2,15 +2,16 @@
 #![tactic(auto)]
 
 mod checks;
+pub mod layout;
 pub mod netlist;
 
 ghost use Rattle.std.specs.Prelude.{◌≡◌, ℕ, ◌+◌, ◌*◌, ◌<◌, ◌≤◌, length, get_or};
-ghost use Rattle.book.specs.Format.{u16, u32, field, Laid, modules, nets, pins, area, mark, weight, pin_count, pin};
+ghost use Rattle.book.specs.Format.{u16, u32};
 ghost use Rattle.book.specs.Steps.{step_by, number_in};
 ghost use Rattle.book.specs.Answer.{number_of, place_of};
-ghost use Rattle.book.specs.Checks.{rest_of, read_of};
+ghost use Rattle.book.specs.Checks.{read_of};
 
-use netlist::Netlist;
+use layout::Layout;
 
 // The counts of a book, and the largest numbers of every book.
 #[derive(Clone, Copy)]
@@ -154,105 +155,12 @@ pub fn u32_at(book: &[u8], i: usize) -> usize
     }
 }
 
-// How many modules a book has.
-pub fn modules(book: &[u8]) -> usize
-    requires { Laid book.now }
-    ensures { result ≡ modules book.now }
-{
-    u32_at(book, 8) / 4
-}
-
-pub fn nets(book: &[u8]) -> usize
-    requires { Laid book.now }
-    ensures { result ≡ nets book.now }
-{
-    u32_at(book, 18) / 4
-}
-
-pub fn pins(book: &[u8]) -> usize
-    requires { Laid book.now }
-    ensures { result ≡ pins book.now }
-{
-    u32_at(book, 28) / 2
-}
-
-// The number i bytes into the body whose start stands at `entry`.
-fn field(book: &[u8], entry: usize, i: usize) -> usize
-    requires { (entry + 4 ≤ length book.now) × (u32 book.now entry + i + 2 ≤ length book.now) }
-    ensures { (result ≡ field book.now entry i) × (result < 65536) }
-{
-    u16_at(book, u32_at(book, entry) + i)
-}
-
-pub fn area(book: &[u8], m: usize) -> usize
-    requires { Laid book.now × (m < modules book.now) }
-    ensures { (result ≡ area book.now m) × (result < 65536) }
-{
-    field(book, 4, 4 * m)
-}
-
-pub fn mark(book: &[u8], m: usize) -> usize
-    requires { Laid book.now × (m < modules book.now) }
-    ensures { (result ≡ mark book.now m) × (result < 65536) }
-{
-    field(book, 4, 4 * m + 2)
-}
-
-pub fn weight(book: &[u8], n: usize) -> usize
-    requires { Laid book.now × (n < nets book.now) }
-    ensures { (result ≡ weight book.now n) × (result < 65536) }
-{
-    field(book, 14, 4 * n)
-}
-
-pub fn pin_count(book: &[u8], n: usize) -> usize
-    requires { Laid book.now × (n < nets book.now) }
-    ensures { (result ≡ pin_count book.now n) × (result < 65536) }
-{
-    field(book, 14, 4 * n + 2)
-}
-
-pub fn pin(book: &[u8], p: usize) -> usize
-    requires { Laid book.now × (p < pins book.now) }
-    ensures { (result ≡ pin book.now p) × (result < 65536) }
-{
-    field(book, 24, 2 * p)
-}
-
-// Checks 2 to 6.
-fn read_laid(book: &[u8]) -> Result<Book, Refusal>
-    requires { Laid book.now }
-    ensures { result ≡ rest_of book.now }
-{
-    if !checks::is_counted(book) {
-        return Err(Refusal::Counts);
-    }
-    if let Some(m) = checks::bad_module(book) {
-        return Err(Refusal::Module(m));
-    }
-    if let Some(n) = checks::bad_net(book) {
-        return Err(Refusal::Net(n));
-    }
-    if let Some(p) = checks::bad_pin(book) {
-        return Err(Refusal::Pin(p));
-    }
-    if checks::lacks(book, 1) | checks::lacks(book, 2) {
-        return Err(Refusal::Marks);
-    }
-    Ok(Book {
-        modules: modules(book),
-        nets: nets(book),
-        pins: pins(book),
-    })
-}
-
 // Checks 1 to 6, on any bytes.
 pub fn read(book: &[u8]) -> Result<Book, Refusal>
     ensures { result ≡ read_of book.now }
 {
-    if checks::is_laid(book) {
-        read_laid(book)
-    } else {
-        Err(Refusal::Layout)
-    }
+    let Some(layout) = Layout::new(book) else {
+        return Err(Refusal::Layout);
+    };
+    layout.read()
 }

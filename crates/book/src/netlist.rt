@@ -6,6 +6,7 @@ ghost use Rattle.book.specs.Format.{modules, nets, pins, area, mark, weight, pin
 ghost use Rattle.book.specs.Checks.{read_of};
 
 use crate::Refusal;
+use crate::layout::Layout;
 
 #[derive(Clone, Copy)]
 pub struct Netlist<'a> {
@@ -24,23 +25,30 @@ impl<'a> Netlist<'a> {
         Ok(Netlist { bytes: book })
     }
 
+    // It is laid out right.
+    fn layout(self) -> Layout<'a>
+        ensures { result.bytes ≡ self.entry.bytes }
+    {
+        Layout { bytes: self.bytes }
+    }
+
     // How many modules it has.
     pub fn modules(self) -> usize
         ensures { result ≡ modules self.entry.bytes.now }
     {
-        crate::modules(self.bytes)
+        self.layout().modules()
     }
 
     pub fn nets(self) -> usize
         ensures { result ≡ nets self.entry.bytes.now }
     {
-        crate::nets(self.bytes)
+        self.layout().nets()
     }
 
     pub fn pins(self) -> usize
         ensures { result ≡ pins self.entry.bytes.now }
     {
-        crate::pins(self.bytes)
+        self.layout().pins()
     }
 
     // The area of module m.
@@ -48,14 +56,14 @@ impl<'a> Netlist<'a> {
         requires { m < modules self.bytes.now }
         ensures { (result ≡ area self.entry.bytes.now m) × (result < 65536) }
     {
-        crate::area(self.bytes, m)
+        self.layout().area(m)
     }
 
     pub fn mark(self, m: usize) -> usize
         requires { m < modules self.bytes.now }
         ensures { (result ≡ mark self.entry.bytes.now m) × (result < 65536) }
     {
-        crate::mark(self.bytes, m)
+        self.layout().mark(m)
     }
 
     // The weight of net n.
@@ -63,14 +71,14 @@ impl<'a> Netlist<'a> {
         requires { n < nets self.bytes.now }
         ensures { (result ≡ weight self.entry.bytes.now n) × (result < 65536) }
     {
-        crate::weight(self.bytes, n)
+        self.layout().weight(n)
     }
 
     pub fn pin_count(self, n: usize) -> usize
         requires { n < nets self.bytes.now }
         ensures { (result ≡ pin_count self.entry.bytes.now n) × (result < 65536) }
     {
-        crate::pin_count(self.bytes, n)
+        self.layout().pin_count(n)
     }
 
     // The module of pin p.
@@ -78,6 +86,6 @@ impl<'a> Netlist<'a> {
         requires { p < pins self.bytes.now }
         ensures { (result ≡ pin self.entry.bytes.now p) × (result < 65536) }
     {
-        crate::pin(self.bytes, p)
+        self.layout().pin(p)
     }
 }

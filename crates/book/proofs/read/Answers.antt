@@ -1,17 +1,20 @@
-use mathlib.Core.Path.{◌≡◌, sym, ◌∙◌}
-use mathlib.Core.Bool.{true, false}
+-- `book::read` meets its contract, by each way out. Assumes nothing.
+use Rattle.std.specs.Prelude.{◌≡◌, List, ℕ, Option, true, false, is_some}
+use mathlib.Core.Path.{sym, ap, ◌∙◌}
+use denote.Bor.{Bor}
+use Rattle.book.specs.declared.layout.Layout.{Layout}
 use Rattle.book.specs.Format.{laid}
-use Rattle.book.specs.Checks.{read_of}
-use Rattle.book.proofs.Laid.{laid_facts}
+use Rattle.book.specs.Checks.{rest_of, read_of}
 use Rattle.book.proofs.read.Goals as goal
 
-pub read_laid-requires : goal.read_laid-requires
-read_laid-requires c = laid_facts _ (sym c.is_laid.ensures ∙ c.if-is_laid.true)
-
-pub returns-then-is_laid : goal.returns-then-is_laid
+pub returns-in_default : goal.returns-in_default
 unfolding read_of
-returns-then-is_laid c = let e : laid c.args.book.now ≡ true = sym c.is_laid.ensures ∙ c.if-is_laid.true in rw e c.read_laid.ensures
+returns-in_default c =
+    let e : laid c.args.book.now ≡ false = sym c.new.ensures.right ∙ ap (λ (r : Option Layout). is_some r) c.in_default.is in
+    rw e
 
-pub returns-else-is_laid : goal.returns-else-is_laid
+pub returns : goal.returns
 unfolding read_of
-returns-else-is_laid c = let e : laid c.args.book.now ≡ false = sym c.is_laid.ensures ∙ c.if-is_laid.false in rw e
+returns c =
+    let e : laid c.args.book.now ≡ true = sym c.new.ensures.right ∙ ap (λ (r : Option Layout). is_some r) c.in-Some.is in
+    rw e (c.read.ensures ∙ ap (λ (b : Bor (List ℕ)). rest_of b.now) c.in-Some.ensures.same)

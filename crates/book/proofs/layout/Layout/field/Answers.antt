@@ -1,6 +1,6 @@
 use borrow.Author.Rules.{rules}
 use Rattle.book.specs.Format.{field}
-use Rattle.book.proofs.field.Goals as goal
+use Rattle.book.proofs.layout.Layout.field.Goals as goal
 
 pub returns : goal.returns
 unfolding field

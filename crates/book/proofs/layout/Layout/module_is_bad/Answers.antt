@@ -1,5 +1,5 @@
 use Rattle.book.specs.Checks.{bad_module}
-use Rattle.book.proofs.checks.module_is_bad.Goals as goal
+use Rattle.book.proofs.layout.Layout.module_is_bad.Goals as goal
 
 pub returns : goal.returns
 unfolding bad_module

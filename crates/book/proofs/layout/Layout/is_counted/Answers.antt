@@ -1,5 +1,5 @@
 use Rattle.book.specs.Checks.{counted}
-use Rattle.book.proofs.checks.is_counted.Goals as goal
+use Rattle.book.proofs.layout.Layout.is_counted.Goals as goal
 
 pub returns : goal.returns
 unfolding counted

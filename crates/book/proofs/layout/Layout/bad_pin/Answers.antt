@@ -10,8 +10,8 @@ use Rattle.book.specs.Format.{first_pin, nets, pins, pin_count}
 use Rattle.book.specs.Checks.{bad_pin_of, bad_pins, check5}
 use Rattle.book.proofs.Firsts.{lowest_more, lowest_found, lowest_ended, first_more, first_found}
 use Rattle.book.proofs.CardLaws.{pin_before}
-use Rattle.book.proofs.checks.bad_pin.Goals as goal
-use Rattle.book.proofs.checks.bad_pin.Goals.{After-pin_is_bad, In-loop-j}
+use Rattle.book.proofs.layout.Layout.bad_pin.Goals as goal
+use Rattle.book.proofs.layout.Layout.bad_pin.Goals.{After-pin_is_bad, In-loop-j}
 
 pub nets-init : goal.nets-init
 unfolding first first_pin
@@ -22,16 +22,16 @@ unfolding first lowest
 loop-j-init c = (c.nets.invariant.0, omega arith, refl)
 
 -- pin j of net n is within the pin body
-within : (c : In-loop-j) → c.loop-j.p < pins c.args.book.now
+within : (c : In-loop-j) → c.loop-j.p < pins c.args.self.bytes.now
 within c =
-    let s = c.args.book.now in
+    let s = c.args.self.bytes.now in
     omega (arith, pin_before s c.nets.n (nets s) c.loop-j.j (omega arith) (omega arith))
 
 pub pin_is_bad-requires : goal.pin_is_bad-requires
-pin_is_bad-requires c = (c.requires.0, within (goal.at.pin_is_bad-requires c).In-loop-j, omega arith)
+pin_is_bad-requires c = (within (goal.at.pin_is_bad-requires c).In-loop-j, omega arith)
 
 -- the test is that of pin j of net n
-tested : (c : After-pin_is_bad) → bad_pin_of c.args.book.now c.nets.n c.loop-j.j ≡ c.pin_is_bad.result
+tested : (c : After-pin_is_bad) → bad_pin_of c.args.self.bytes.now c.nets.n c.loop-j.j ≡ c.pin_is_bad.result
 tested c = rw (← c.loop-j.invariant.1) (sym c.pin_is_bad.ensures)
 
 pub overflow_add-p : goal.overflow_add-p
@@ -47,7 +47,7 @@ unfolding first_pin
 nets-preserved c =
     let i = c.loop-j in
     let o = c.nets in
-    let s = c.args.book.now in
+    let s = c.args.self.bytes.now in
     let e : i.j ≡ pin_count s o.n = omega arith in (
       i.invariant.0,
       rw add-one (omega arith),
@@ -58,7 +58,7 @@ pub returns-after-nets : goal.returns-after-nets
 unfolding check5
 returns-after-nets c =
     let o = c.nets in
-    let e : o.n ≡ nets c.args.book.now = omega arith in
+    let e : o.n ≡ nets c.args.self.bytes.now = omega arith in
     o.invariant.0 ∙ rw (← e) (sym o.invariant.2)
 
 pub returns-then-pin_is_bad : goal.returns-then-pin_is_bad
@@ -66,7 +66,7 @@ unfolding check5
 returns-then-pin_is_bad c =
     let i = c.loop-j in
     let o = c.nets in
-    let s = c.args.book.now in
+    let s = c.args.self.bytes.now in
     let l : i.j < pin_count s o.n = omega arith in
     let f = lowest_found (bad_pin_of s o.n) i.j (pin_count s o.n) i.invariant.2 (tested (goal.at.returns-then-pin_is_bad c).After-pin_is_bad ∙ c.if-pin_is_bad.true) l in
     sym (first_found (bad_pins s) o.n (nets s) i.p o.invariant.2 (rw f (ap Some (sym i.invariant.1))) (omega arith))

@@ -1,5 +1,5 @@
 use Rattle.book.specs.Checks.{bad_net}
-use Rattle.book.proofs.checks.net_is_bad.Goals as goal
+use Rattle.book.proofs.layout.Layout.net_is_bad.Goals as goal
 
 pub returns : goal.returns
 unfolding bad_net

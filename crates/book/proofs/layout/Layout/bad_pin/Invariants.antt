@@ -6,10 +6,10 @@ use mathlib.Core.Path.{◌≡◌}
 use Rattle.book.specs.First.{first, lowest}
 use Rattle.book.specs.Format.{first_pin}
 use Rattle.book.specs.Checks.{bad_pin_of, bad_pins}
-use Rattle.book.proofs.checks.bad_pin.Given as goal
+use Rattle.book.proofs.layout.Layout.bad_pin.Given as goal
 
 abbrev pub invariant-loop-j : goal.invariant-loop-j
-invariant-loop-j l = (l.bad ≡ None) × (l.p ≡ first_pin l.book l.n + l.j) × (lowest (bad_pin_of l.book l.n) l.j ≡ None)
+invariant-loop-j l = (l.bad ≡ None) × (l.p ≡ first_pin l.self.bytes.now l.n + l.j) × (lowest (bad_pin_of l.self.bytes.now l.n) l.j ≡ None)
 
 abbrev pub invariant-nets : goal.invariant-nets
-invariant-nets l = (l.bad ≡ None) × (l.p ≡ first_pin l.book l.n) × (first (bad_pins l.book) l.n ≡ None)
+invariant-nets l = (l.bad ≡ None) × (l.p ≡ first_pin l.self.bytes.now l.n) × (first (bad_pins l.self.bytes.now) l.n ≡ None)

@@ -5,8 +5,8 @@ use mathlib.Core.Path.{◌≡◌}
 use Rattle.book.specs.First.{lowest}
 use Rattle.book.specs.Format.{first_pin}
 use Rattle.book.specs.Checks.{bad_net}
-use Rattle.book.proofs.checks.bad_net.Given as goal
+use Rattle.book.proofs.layout.Layout.bad_net.Given as goal
 
 abbrev pub invariant-loop-n : goal.invariant-loop-n
 invariant-loop-n l =
-    (lowest (bad_net l.book) l.n ≡ None) × (l.sum ≡ first_pin l.book l.n) × (l.sum ≤ 65536 * l.n)
+    (lowest (bad_net l.self.bytes.now) l.n ≡ None) × (l.sum ≡ first_pin l.self.bytes.now l.n) × (l.sum ≤ 65536 * l.n)

@@ -1,7 +1,7 @@
 use borrow.Author.Tests.{lt-ltb, le-ltb}
 use mathlib.Core.Bool.{or-false}
 use Rattle.book.specs.Checks.{bad_pin}
-use Rattle.book.proofs.checks.pin_is_bad.Goals as goal
+use Rattle.book.proofs.layout.Layout.pin_is_bad.Goals as goal
 
 pub returns-then-j-gt0 : goal.returns-then-j-gt0
 unfolding bad_pin
