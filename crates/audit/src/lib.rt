@@ -72,7 +72,7 @@ fn is_uneven(netlist: Netlist<'_>, sends: &[u64], takes: &[u64], m: usize) -> bo
     requires { (modules netlist.bytes.now ≤ length sends.now) × (modules netlist.bytes.now ≤ length takes.now) × (m < modules netlist.bytes.now) }
     ensures { result ≡ uneven netlist.entry.bytes.now sends.now takes.now m }
 {
-    (netlist.mark(m) == 0) & (sends[m] != takes[m])
+    netlist.mark(m).is_free() & (sends[m] != takes[m])
 }
 
 // Check 12, on the sums of all modules: the lowest free module that is uneven.
@@ -88,7 +88,7 @@ fn meter_at(netlist: Netlist<'_>, sums: &[u64], m: usize) -> u64
     requires { Small netlist.bytes.now sums.now × (m < modules netlist.bytes.now) }
     ensures { (result ≡ cond (meters (card_of netlist.entry.bytes.now) m) (get_or sums.now m 0) 0) × (result ≤ most_sent * most_pins) }
 {
-    if netlist.mark(m) == 1 { sums[m] } else { 0 }
+    if_on(netlist.mark(m).is_meter(), sums[m])
 }
 
 // The entries of the meter modules added up.
@@ -226,7 +226,7 @@ impl<'a> Flowed<'a> {
         let mut sent: u64 = 0;
         let mut taken: u64 = 0;
         for p in 0..self.netlist.pins() {
-            let on = self.netlist.mark(self.netlist.pin(p)) == 1;
+            let on = self.netlist.mark(self.netlist.pin(p)).is_meter();
             sent += if_on(on, sent_at(self.flow, p));
             taken += if_on(on, taken_at(self.flow, p));
         }

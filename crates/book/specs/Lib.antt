@@ -7,3 +7,4 @@ pub mod Checks
 pub mod Answer
 pub mod Sound
 pub mod Cards
+pub mod Marks

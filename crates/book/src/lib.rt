@@ -3,6 +3,7 @@
 
 mod checks;
 pub mod layout;
+pub mod mark;
 pub mod netlist;
 
 ghost use Rattle.std.specs.Prelude.{◌≡◌, ℕ, ◌+◌, ◌*◌, ◌<◌, ◌≤◌, length, get_or};

@@ -4,9 +4,11 @@
 ghost use Rattle.std.specs.Prelude.{◌≡◌, ◌<◌, is_ok, true, IfOk, Err, IfErr};
 ghost use Rattle.book.specs.Format.{modules, nets, pins, area, mark, weight, pin_count, pin};
 ghost use Rattle.book.specs.Checks.{read_of};
+ghost use Rattle.book.specs.Marks.{number_of};
 
 use crate::Refusal;
 use crate::layout::Layout;
+use crate::mark::Mark;
 
 #[derive(Clone, Copy)]
 pub struct Netlist<'a> {
@@ -59,11 +61,15 @@ impl<'a> Netlist<'a> {
         self.layout().area(m)
     }
 
-    pub fn mark(self, m: usize) -> usize
+    pub fn mark(self, m: usize) -> Mark
         requires { m < modules self.bytes.now }
-        ensures { (result ≡ mark self.entry.bytes.now m) × (result < 65536) }
+        ensures { number_of result ≡ mark self.entry.bytes.now m }
     {
-        self.layout().mark(m)
+        let mark = self.layout().mark(m);
+        if mark == 0 {
+            return Mark::Free;
+        }
+        if mark == 1 { Mark::Meter } else { Mark::Maker }
     }
 
     // The weight of net n.

@@ -13,6 +13,7 @@ ghost use Rattle.side.specs.Prices.{most_number, most_area, most_price, priced};
 ghost use Rattle.side.specs.Moves.{is_free, change_of, changed_good, changed, apart_of, crosses_with};
 
 use book::Refusal;
+use book::mark::Mark;
 use book::netlist::Netlist;
 
 // A net apart from one module: whether that module has a pin on it, and whether another module's pin is on the side, and off it.
@@ -110,9 +111,12 @@ impl<'a> Sided<'a> {
         requires { m < modules self.netlist.bytes.now }
         ensures { result ≡ misplaced self.entry.netlist.bytes.now (side_of self.entry.bits.now) m }
     {
-        let mark = self.netlist.mark(m);
         let on = inside(self.bits, m);
-        ((mark == 1) & !on) | ((mark == 2) & on)
+        match self.netlist.mark(m) {
+            Mark::Free => false,
+            Mark::Meter => !on,
+            Mark::Maker => on,
+        }
     }
 
     // Whether a side holds every meter module and no maker module.
@@ -270,11 +274,10 @@ pub fn is_short(netlist: Netlist<'_>, side: &[u8]) -> bool
 pub fn is_free(netlist: Netlist<'_>, m: usize) -> bool
     ensures { result ≡ is_free netlist.entry.bytes.now m }
 {
-    if m < netlist.modules() {
-        netlist.mark(m) == 0
-    } else {
-        false
+    if m >= netlist.modules() {
+        return false;
     }
+    netlist.mark(m).is_free()
 }
 
 // Checks 1 to 6, 8 and 9, on any bytes: the side beside its netlist.

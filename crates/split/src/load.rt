@@ -50,5 +50,5 @@ pub fn marks(netlist: Netlist<'_>, out: &mut [u8])
     requires { length out.old ≡ modules netlist.bytes.now }
     ensures { out.new ≡ listed (mark netlist.entry.bytes.now) (modules netlist.entry.bytes.now) }
 {
-    fill_by(out, |m| netlist.mark(m) as u8);
+    fill_by(out, |m| u8::from(netlist.mark(m)));
 }

@@ -1,5 +1,6 @@
 -- `audit::is_uneven` meets its contract. Assumes nothing.
+use mathlib.Core.Path.{sym}
 use Rattle.audit.proofs.is_uneven.Goals as goal
 
 pub returns : goal.returns
-returns c = rw c.mark.ensures.0
+returns c = rw (sym c.mark.ensures, c.is_free.ensures)

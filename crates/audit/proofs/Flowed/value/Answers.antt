@@ -1,7 +1,7 @@
 -- `audit::Flowed::value` meets its contract: the two sums are those of the meter modules' pins before `p`, each at most `most_sent` for each of them. Assumes nothing.
 use Prim.Native.Nat.{ℕ, ◌+◌}
 use mathlib.Core.Path.{◌≡◌, ap, ap₂, sym, ◌∙◌}
-use mathlib.Core.Bool.{cond}
+use mathlib.Core.Bool.{Bool, cond}
 use native.Mathlib.Omega.{arith}
 use lib.Dec.{eqb}
 use Rattle.line.specs.Flow.{meters}
@@ -17,17 +17,17 @@ use Rattle.audit.proofs.Flowed.value.Goals.{After-loop-p}
 pub loop-p-init : goal.loop-p-init
 loop-p-init c = (sum_none _, sum_none _, omega arith, omega arith)
 
-pub mark-on-requires : goal.mark-on-requires
-mark-on-requires c =
+pub mark-requires : goal.mark-requires
+mark-requires c =
     rw c.pin.ensures.0 (pin_under _ (sound_netlist c.args.self.netlist) c.loop-p.p (omega arith))
 
 pub loop-p-preserved : goal.loop-p-preserved
 loop-p-preserved c =
     let s = c.args.self.netlist.bytes.now in
     let i = c.loop-p in
-    let k : c.mark-on.result ≡ mark s (pin s i.p) = c.mark-on.ensures.0 ∙ ap (mark s) c.pin.ensures.0 in
-    let x = c.if_on-sent.ensures.0 ∙ ap₂ (λ (m v : ℕ). cond (eqb m 1) v 0) k c.sent_at.ensures.0 in
-    let y = c.if_on-taken.ensures.0 ∙ ap₂ (λ (m v : ℕ). cond (eqb m 1) v 0) k c.taken_at.ensures.0 in (
+    let k : c.is_meter-on.result ≡ eqb (mark s (pin s i.p)) 1 = c.is_meter-on.ensures ∙ ap (λ (n : ℕ). eqb n 1) (c.mark.ensures ∙ ap (mark s) c.pin.ensures.0) in
+    let x = c.if_on-sent.ensures.0 ∙ ap₂ (λ (t : Bool) (v : ℕ). cond t v 0) k c.sent_at.ensures.0 in
+    let y = c.if_on-taken.ensures.0 ∙ ap₂ (λ (t : Bool) (v : ℕ). cond t v 0) k c.taken_at.ensures.0 in (
       ap₂ (λ (a b : ℕ). a + b) i.invariant.0 x ∙ sym (sum_next _ i.p),
       ap₂ (λ (a b : ℕ). a + b) i.invariant.1 y ∙ sym (sum_next _ i.p),
       omega arith,
