@@ -71,7 +71,7 @@ pub fn lift(
     let mut how: [u64; Book::MODULES] = [0; Book::MODULES];
     let mut seen: [u16; Book::NETS] = [0; Book::NETS];
     let mut sums: [u32; Book::NETS] = [0; Book::NETS];
-    climb::climb::climb(
+    let board = Board {
         first,
         mods,
         weight,
@@ -79,11 +79,8 @@ pub fn lift(
         at,
         pins,
         mark,
-        &mut how[..m],
-        &mut seen[..n],
-        &mut sums[..n],
-        flow,
-    );
+    };
+    climb::climb::climb(&board, &mut how[..m], &mut seen[..n], &mut sums[..n], flow);
 }
 
 // The same in work of its own, the flow lifted first.
