@@ -1,5 +1,5 @@
 -- A slice filled from the front, place after place, becomes the list of what was put there. Assumes nothing.
-use Rattle.std.specs.Prelude.{◌≡◌, ℕ, zero, suc, ◌+◌, ◌<◌, List, [], ◌∷◌, ◌++◌, length, take, set, slice_get, IfSome}
+use Rattle.std.specs.Prelude.{◌≡◌, ℕ, zero, suc, ◌+◌, ◌<◌, List, [], ◌∷◌, ◌++◌, length, take, set, get_or, slice_get, IfSome}
 use mathlib.Core.Path.{refl, sym, ap, ap₂, ◌∙◌}
 use native.Mathlib.Numerals.{add-one}
 use native.Mathlib.Omega.{arith}
@@ -33,3 +33,9 @@ module _ {A : Type 0} where
 
   pub filled_by : (f : ℕ → A) (P : ℕ → A → Type 0) (l : List A) (n : ℕ) → ((i : ℕ) (x : A) → P i x → x ≡ f i) → ((i : ℕ) → IfSome (slice_get l i) (P i)) → length l ≡ n → l ≡ listed f n
   filled_by f P l n says h e = each_place f P l says h ∙ ap (listed f) e
+
+-- what stands at each place is below a bound
+pub each_below : (P : ℕ → ℕ → Type 0) (l : List ℕ) (k : ℕ) → 0 < k → ((i x : ℕ) → P i x → x < k) → ((i : ℕ) → IfSome (slice_get l i) (P i)) → (n : ℕ) → get_or l n 0 < k
+each_below P [] k z says h n = z
+each_below P (x ∷ l) k z says h zero = says 0 x (h 0)
+each_below P (x ∷ l) k z says h (suc n) = each_below (λ i. P (suc i)) l k z (λ i. says (suc i)) (λ i. h (suc i)) n

@@ -1,7 +1,8 @@
 -- What the engine makes of the slices loaded from a sound book is the split of its card. Assumes nothing.
-use Rattle.std.specs.Prelude.{◌≡◌, ℕ, ◌≤◌, List, length, get_or, ℤ, pos}
-use mathlib.Core.Path.{sym, ap, ◌∙◌}
+use Rattle.std.specs.Prelude.{◌≡◌, ℕ, ◌+◌, ◌<◌, ◌≤◌, List, ◌++◌, length, take, get_or, ℤ, pos}
+use mathlib.Core.Path.{refl, sym, ap, subst, ◌∙◌}
 use native.Mathlib.Omega.{arith}
+use lib.Seq.{take_at}
 use Rattle.line.specs.Card.{Alike}
 use Rattle.line.proofs.Search.{Still}
 use Rattle.book.specs.Format.{modules, nets, pins, mark, weight, pin}
@@ -10,13 +11,28 @@ use Rattle.book.specs.Sound.{Sound}
 use Rattle.book.specs.Cards as book
 use Rattle.book.proofs.Elements.{length_listed, get_or_listed}
 use Rattle.side.specs.Sides.{side_of, bytes_for}
+use Rattle.flow.specs.Board.{board_card}
+use Rattle.flow.specs.Build.{Buildable, Built}
 use Rattle.flow.specs.Cards.{card_of}
+use Rattle.flow.specs.Search.{Tables}
+use Rattle.flow.specs.declared.board.Board.{Board}
 use Rattle.flow.proofs.Raised.{zeros_fair}
+use Rattle.split.specs.Boards.{Light, Tabled, Lends}
 use Rattle.split.specs.Solved.{Slices, Begins, Solved}
 use Rattle.split.proofs.SameCard.{firsts_of, mods_of, weights_of, slices_laid, near_slices, far_slices, fair_slices, value_slices, price_slices}
 
 abbrev pub marks_of : List ℕ → List ℕ
 marks_of s = listed (mark s) (modules s)
+
+-- what is listed at the front of an array
+longs : (xs : List ℕ) (f : ℕ → ℕ) (k : ℕ) → xs ≡ listed f k → length xs ≡ k
+longs xs f k e = ap (λ (l : List ℕ). length l) e ∙ length_listed f k
+
+pub front_listed : (f : ℕ → ℕ) (k : ℕ) (xs r : List ℕ) → xs ≡ listed f k → take k (xs ++ r) ≡ listed f k
+front_listed f k xs r e = take_at xs r k (longs xs f k e) ∙ e
+
+pub front_light : (s xs r : List ℕ) → xs ≡ listed (weight s) (nets s) → ((n : ℕ) → get_or xs n 0 < 65536) → Light s (xs ++ r)
+front_light s xs r e h n = rw (take_at xs r (nets s) (longs xs (weight s) (nets s) e)) (h n)
 
 module _ (s : List ℕ) (h : Sound s) where
   long : length (marks_of s) ≡ modules s
@@ -25,7 +41,7 @@ module _ (s : List ℕ) (h : Sound s) where
   alike : Alike (modules s) (λ m. get_or (marks_of s) m 0) (mark s)
   alike m l = get_or_listed (mark s) (modules s) m 0 l
 
-  pub slices_loaded : (fs ms ws mk : List ℕ) → fs ≡ firsts_of s → ms ≡ mods_of s → ws ≡ weights_of s → mk ≡ marks_of s → Slices fs ms ws mk
+  slices_loaded : (fs ms ws mk : List ℕ) → fs ≡ firsts_of s → ms ≡ mods_of s → ws ≡ weights_of s → mk ≡ marks_of s → Slices fs ms ws mk
   slices_loaded fs ms ws mk a b d e = rw (a, b, d, e) (record {
     laid = slices_laid s h (marks_of s) (mark s) long alike h.mark_low;
     few_modules = omega (arith, long, h.few_modules);
@@ -33,7 +49,10 @@ module _ (s : List ℕ) (h : Sound s) where
     few_pins = omega (arith, length_listed (pin s) (pins s), h.few_pins);
   })
 
-  pub begins_loaded : (fs ms ws mk near far : List ℕ) (fl : List ℤ) → ms ≡ mods_of s → mk ≡ marks_of s → Still fl → length fl ≡ pins s →
+  pub below_loaded : (ms : List ℕ) → ms ≡ mods_of s → (p : ℕ) → p < length ms → get_or ms p 0 < modules s
+  below_loaded ms e p l = rw (← long) ((slices_loaded (firsts_of s) ms (weights_of s) (marks_of s) refl e refl refl).laid.below p l)
+
+  begins_loaded : (fs ms ws mk near far : List ℕ) (fl : List ℤ) → ms ≡ mods_of s → mk ≡ marks_of s → Still fl → length fl ≡ pins s →
       bytes_for (modules s) ≤ length near → bytes_for (modules s) ≤ length far → Begins (card_of fs ms ws mk) ms near far fl
   unfolding card_of
   begins_loaded fs ms ws mk near far fl b e z l n f = record {
@@ -54,6 +73,38 @@ module _ (s : List ℕ) (h : Sound s) where
     small = q.small;
   }
 
-  pub solved_loaded : (fs ms ws mk near₀ far₀ near far : List ℕ) (fl : List ℤ) → fs ≡ firsts_of s → ms ≡ mods_of s → ws ≡ weights_of s → mk ≡ marks_of s →
-      Solved (card_of fs ms ws mk) near₀ far₀ near far fl → Solved (book.card_of s) near₀ far₀ near far fl
-  solved_loaded fs ms ws mk near₀ far₀ near far fl a b d e q = solved_slices near₀ far₀ near far fl (rw (a, b, d, e) at q)
+  -- ---- a board of the book, with the book's marks
+
+  module _ (b : Board) (l : Lends s b × (b.mark.now ≡ marks_of s)) where
+    pub slices_lent : Slices b.first.now b.mods.now b.weight.now b.mark.now
+    slices_lent = slices_loaded _ _ _ _ l.0.firsts l.0.mods l.0.weights l.1
+
+    pub begins_lent : (near far : List ℕ) (fl : List ℤ) → Still fl → length fl ≡ pins s → bytes_for (modules s) ≤ length near → bytes_for (modules s) ≤ length far →
+        Begins (board_card b) b.mods.now near far fl
+    begins_lent near far fl = begins_loaded _ _ _ _ near far fl l.0.mods l.1
+
+    pub solved_lent : (near₀ far₀ near far : List ℕ) (fl : List ℤ) → Solved (board_card b) near₀ far₀ near far fl → Solved (book.card_of s) near₀ far₀ near far fl
+    solved_lent near₀ far₀ near far fl q = solved_slices near₀ far₀ near far fl (rw (l.0.firsts, l.0.mods, l.0.weights, l.1) at q)
+
+  -- ---- the tables of the loaded slices
+
+  module _ (fs ms ws nt at pl : List ℕ) (a : fs ≡ firsts_of s) (b : ms ≡ mods_of s) (d : ws ≡ weights_of s) (n : length nt ≡ pins s) (m : length at ≡ modules s + 1) (p : length pl ≡ pins s) where
+    pub buildable : Buildable fs ms ws (marks_of s) nt at pl
+    buildable =
+        let g = slices_loaded fs ms ws (marks_of s) a b d refl in
+        let k : length ms ≡ pins s = ap (λ (l : List ℕ). length l) b ∙ length_listed (pin s) (pins s) in
+        record {
+          laid = g.laid;
+          pins = omega (arith, g.few_pins);
+          nets = omega (arith, g.few_nets);
+          named = n ∙ sym k;
+          starts = omega (arith, m, long);
+          placed = omega (arith, k, p);
+        }
+
+    -- at the fronts of their arrays
+    pub tables_built : (nt' at' pl' a' b' d' n' m' p' : List ℕ) → length nt' ≡ length nt → length at' ≡ length at → length pl' ≡ length pl → Built fs ms ws nt at pl nt' at' pl' →
+        Tabled s (fs ++ a') (ms ++ b') (ws ++ d') (nt' ++ n') (at' ++ m') (pl' ++ p')
+    tables_built nt' at' pl' a' b' d' n' m' p' x y z t =
+        rw (take_at fs a' (nets s + 1) (longs fs _ _ a), take_at ms b' (pins s) (longs ms _ _ b), take_at ws d' (nets s) (longs ws _ _ d), take_at nt' n' (pins s) (x ∙ n), take_at at' m' (modules s + 1) (y ∙ m), take_at pl' p' (pins s) (z ∙ p))
+        (subst (λ (k : ℕ). Tables fs ms ws nt' at' pl' k) long (t (marks_of s) buildable))

@@ -2,4 +2,5 @@
 pub mod Writes
 pub mod Solved
 pub mod Splits
+pub mod Boards
 pub mod Verdicts

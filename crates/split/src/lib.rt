@@ -4,7 +4,7 @@
 pub mod bits;
 pub mod engine;
 pub mod load;
-mod numbers;
+pub mod numbers;
 
 ghost use Rattle.std.specs.Prelude.{◌≡◌, length};
 ghost use Rattle.line.specs.Card.{price};
@@ -26,15 +26,7 @@ fn split_exact(netlist: Netlist<'_>, near: &mut [u8], far: &mut [u8], flow: &mut
 {
     let numbers = Numbers::of(netlist);
     flow::engine::still(&mut *flow);
-    engine::solve(
-        numbers.first(),
-        numbers.mods(),
-        numbers.weight(),
-        numbers.mark(),
-        near,
-        far,
-        &mut *flow,
-    );
+    engine::solve(&numbers.board(), near, far, &mut *flow);
     let flowed = Flowed { netlist, flow };
     flowed.value()
 }

@@ -1,5 +1,5 @@
 // A book's numbers as the engine's slices: the first pin of each net and the end of the last, the module of each pin, the weights, the marks.
-ghost use Rattle.std.specs.Prelude.{◌≡◌, ℕ, ◌+◌, ◌<◌, length, slice_get, IfSome};
+ghost use Rattle.std.specs.Prelude.{◌≡◌, ℕ, ◌+◌, ◌<◌, length, get_or, slice_get, IfSome};
 ghost use Rattle.book.specs.Format.{modules, nets, pins, mark, weight, pin, first_pin};
 ghost use Rattle.book.specs.Listed.{listed};
 
@@ -40,7 +40,7 @@ pub fn mods(netlist: Netlist<'_>, out: &mut [u16])
 // The weight of each net.
 pub fn weights(netlist: Netlist<'_>, out: &mut [u16])
     requires { length out.old ≡ nets netlist.bytes.now }
-    ensures { out.new ≡ listed (weight netlist.entry.bytes.now) (nets netlist.entry.bytes.now) }
+    ensures { (out.new ≡ listed (weight netlist.entry.bytes.now) (nets netlist.entry.bytes.now)) × ((n : ℕ) → get_or out.new n 0 < 65536) }
 {
     fill_by(out, |n| netlist.weight(n) as u16);
 }

@@ -1,83 +1,99 @@
-// A book's numbers in arrays of their own, with the engine's slices at their fronts.
-ghost use Rattle.std.specs.Prelude.{◌≡◌, ◌+◌, ◌≤◌, take};
-ghost use Rattle.book.specs.Checks.{most_modules, most_nets, most_pins};
-ghost use Rattle.book.specs.Format.{modules, nets, pins, mark, weight, pin, first_pin};
+// A book's numbers and the tables of its pins in arrays of their own, and the boards that they lend.
+ghost use Rattle.std.specs.Prelude.{◌≡◌, length};
+ghost use Rattle.book.specs.Format as format;
 ghost use Rattle.book.specs.Listed.{listed};
+ghost use Rattle.split.specs.Boards.{Firsts, Mods, Weights, Marks, Light, Tabled, Lends};
 
 use crate::load;
 use book::Book;
 use book::netlist::Netlist;
+use flow::board::Board;
 
-// The arrays, and how many modules, nets and pins the book has.
+// The arrays, each with what a board lends at its front, beside the netlist that they are of.
 #[derive(Drop)]
-pub struct Numbers {
+pub struct Numbers<'a> {
+    pub netlist: Netlist<'a>,
     first: [u16; Book::NETS + 1],
     mods: [u16; Book::PINS],
     weight: [u16; Book::NETS],
+    nets: [u16; Book::PINS],
+    at: [u16; Book::MODULES + 1],
+    pins: [u16; Book::PINS],
     mark: [u8; Book::MODULES],
-    modules: usize,
-    nets: usize,
-    pins: usize,
-    ghost few_modules: { modules ≤ most_modules },
-    ghost few_nets: { nets ≤ most_nets },
-    ghost few_pins: { pins ≤ most_pins },
+    ghost firsts: { Firsts netlist.bytes.now first },
+    ghost modules: { Mods netlist.bytes.now mods },
+    ghost weights: { Weights netlist.bytes.now weight },
+    ghost marks: { Marks netlist.bytes.now mark },
+    // True of any weight, as in a board.
+    ghost light: { Light netlist.bytes.now weight },
+    ghost tables: { ∥ Tabled netlist.bytes.now first mods weight nets at pins ∥₁ },
 }
 
-impl Numbers {
+impl<'a> Numbers<'a> {
     // Those of a book that reads.
-    pub fn of(netlist: Netlist<'_>) -> Numbers
-        ensures first { take (result.nets + 1) result.first ≡ listed (first_pin netlist.entry.bytes.now) (nets netlist.entry.bytes.now + 1) }
-        ensures mods { take result.pins result.mods ≡ listed (pin netlist.entry.bytes.now) (pins netlist.entry.bytes.now) }
-        ensures weight { take result.nets result.weight ≡ listed (weight netlist.entry.bytes.now) (nets netlist.entry.bytes.now) }
-        ensures mark { take result.modules result.mark ≡ listed (mark netlist.entry.bytes.now) (modules netlist.entry.bytes.now) }
+    pub fn of(netlist: Netlist<'a>) -> Numbers<'a>
+        ensures { result.netlist.bytes ≡ netlist.entry.bytes }
     {
-        let modules = netlist.modules();
-        let nets = netlist.nets();
-        let pins = netlist.pins();
+        let m = netlist.modules();
+        let n = netlist.nets();
+        let p = netlist.pins();
         let mut first = [0; Book::NETS + 1];
-        load::firsts(netlist, &mut first[..nets + 1]);
+        let firsts = &mut first[..n + 1];
+        load::firsts(netlist, &mut *firsts);
         let mut mods = [0; Book::PINS];
-        load::mods(netlist, &mut mods[..pins]);
+        let pin_mods = &mut mods[..p];
+        load::mods(netlist, &mut *pin_mods);
         let mut weight = [0; Book::NETS];
-        load::weights(netlist, &mut weight[..nets]);
+        let weights = &mut weight[..n];
+        load::weights(netlist, &mut *weights);
         let mut mark = [0; Book::MODULES];
-        load::marks(netlist, &mut mark[..modules]);
+        load::marks(netlist, &mut mark[..m]);
+        let mut nets = [0; Book::PINS];
+        let mut at = [0; Book::MODULES + 1];
+        let mut pins = [0; Book::PINS];
+        flow::tables::build(
+            &*firsts,
+            &*pin_mods,
+            &*weights,
+            &mut nets[..p],
+            &mut at[..m + 1],
+            &mut pins[..p],
+        );
         Numbers {
+            netlist,
             first,
             mods,
             weight,
-            mark,
-            modules,
             nets,
+            at,
             pins,
+            mark,
         }
     }
 
-    // Where the pins of each net begin, and where those of the last end.
-    pub fn first(&self) -> &[u16]
-        ensures { result.now ≡ take (self.now.nets + 1) self.now.first }
+    // The book as a board.
+    pub fn board(&self) -> Board<'_>
+        ensures { Lends self.now.netlist.bytes.now result × (result.mark.now ≡ listed (format.mark self.now.netlist.bytes.now) (format.modules self.now.netlist.bytes.now)) }
     {
-        &self.first[..self.nets + 1]
+        self.board_with(&self.mark[..self.netlist.modules()])
     }
 
-    // The module of each pin.
-    pub fn mods(&self) -> &[u16]
-        ensures { result.now ≡ take self.now.pins self.now.mods }
+    // The book as a board with other marks.
+    pub fn board_with<'b>(&'b self, mark: &'b [u8]) -> Board<'b>
+        requires { length mark.now ≡ format.modules self.now.netlist.bytes.now }
+        ensures { Lends self.now.netlist.bytes.now result × (result.mark ≡ mark.entry) }
     {
-        &self.mods[..self.pins]
-    }
-
-    // The weight of each net.
-    pub fn weight(&self) -> &[u16]
-        ensures { result.now ≡ take self.now.nets self.now.weight }
-    {
-        &self.weight[..self.nets]
-    }
-
-    // The mark of each module.
-    pub fn mark(&self) -> &[u8]
-        ensures { result.now ≡ take self.now.modules self.now.mark }
-    {
-        &self.mark[..self.modules]
+        let m = self.netlist.modules();
+        let n = self.netlist.nets();
+        let p = self.netlist.pins();
+        Board {
+            first: &self.first[..n + 1],
+            mods: &self.mods[..p],
+            weight: &self.weight[..n],
+            nets: &self.nets[..p],
+            at: &self.at[..m + 1],
+            pins: &self.pins[..p],
+            mark,
+        }
     }
 }
