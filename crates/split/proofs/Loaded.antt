@@ -41,13 +41,17 @@ module _ (s : List ℕ) (h : Sound s) where
   alike : Alike (modules s) (λ m. get_or (marks_of s) m 0) (mark s)
   alike m l = get_or_listed (mark s) (modules s) m 0 l
 
-  slices_loaded : (fs ms ws mk : List ℕ) → fs ≡ firsts_of s → ms ≡ mods_of s → ws ≡ weights_of s → mk ≡ marks_of s → Slices fs ms ws mk
-  slices_loaded fs ms ws mk a b d e = rw (a, b, d, e) (record {
-    laid = slices_laid s h (marks_of s) (mark s) long alike h.mark_low;
-    few_modules = omega (arith, long, h.few_modules);
+  -- with any marks, one a module and at most 2
+  pub slices_of : (fs ms ws mk : List ℕ) → fs ≡ firsts_of s → ms ≡ mods_of s → ws ≡ weights_of s → length mk ≡ modules s → ((m : ℕ) → m < modules s → get_or mk m 0 ≤ 2) → Slices fs ms ws mk
+  slices_of fs ms ws mk a b d n low = rw (a, b, d) (record {
+    laid = slices_laid s h mk (λ m. get_or mk m 0) n (λ m i. refl) low;
+    few_modules = omega (arith, n, h.few_modules);
     few_nets = omega (arith, length_listed (weight s) (nets s), h.few_nets);
     few_pins = omega (arith, length_listed (pin s) (pins s), h.few_pins);
   })
+
+  slices_loaded : (fs ms ws mk : List ℕ) → fs ≡ firsts_of s → ms ≡ mods_of s → ws ≡ weights_of s → mk ≡ marks_of s → Slices fs ms ws mk
+  slices_loaded fs ms ws mk a b d e = rw e (slices_of fs ms ws (marks_of s) a b d long (λ m i. omega (arith, alike m i, h.mark_low m i)))
 
   pub below_loaded : (ms : List ℕ) → ms ≡ mods_of s → (p : ℕ) → p < length ms → get_or ms p 0 < modules s
   below_loaded ms e p l = rw (← long) ((slices_loaded (firsts_of s) ms (weights_of s) (marks_of s) refl e refl refl).laid.below p l)

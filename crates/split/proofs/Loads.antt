@@ -2,7 +2,8 @@
 use Rattle.std.specs.Prelude.{◌≡◌, ℕ, ◌≤◌, List}
 use mathlib.Core.Path.{refl}
 use native.Mathlib.Omega.{arith}
-use Rattle.book.specs.Format.{nets, pins, first_pin}
+use Rattle.book.specs.Format.{modules, nets, pins, first_pin}
+use Rattle.book.specs.Checks.{most_modules, most_nets, most_pins}
 use Rattle.book.specs.Sound.{Sound}
 use Rattle.book.specs.declared.netlist.Netlist.{Netlist}
 use Rattle.book.proofs.Netlists.{sound_of}
@@ -10,6 +11,15 @@ use Rattle.book.proofs.CardLaws.{first_pin_mono}
 
 pub sound_netlist : (n : Netlist) → Sound n.bytes.now
 sound_netlist n = sound_of _ n.reads
+
+pub few_modules : (n : Netlist) → modules n.bytes.now ≤ most_modules
+few_modules n = (sound_netlist n).few_modules
+
+pub few_nets : (n : Netlist) → nets n.bytes.now ≤ most_nets
+few_nets n = (sound_netlist n).few_nets
+
+pub few_pins : (n : Netlist) → pins n.bytes.now ≤ most_pins
+few_pins n = (sound_netlist n).few_pins
 
 pub first-zero : (s : List ℕ) → 0 ≡ first_pin s 0
 unfolding first_pin

@@ -1,8 +1,8 @@
 -- From what the engine and the writing of its answers ensure to both sides and the flow. Assumes nothing.
-use Rattle.std.specs.Prelude.{◌≡◌, ℕ, ◌<◌, ◌≤◌, Bool, true, false, List, length, get_or, ℤ, pos}
+use Rattle.std.specs.Prelude.{◌≡◌, ℕ, Bool, true, false, List, length, ℤ, pos}
 use mathlib.Core.Path.{sym, ap, ◌∙◌}
 use native.Mathlib.Omega.{arith}
-use Rattle.line.specs.Card.{Card, outside, Alike, Far}
+use Rattle.line.specs.Card.{outside, Alike, Far}
 use Rattle.line.proofs.Below.{price_alike, near_alike, far_alike}
 use Rattle.side.specs.Sides as sides
 use Rattle.flow.specs.Board.{board_card}

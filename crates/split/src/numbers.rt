@@ -1,4 +1,6 @@
 // A book's numbers and the tables of its pins in arrays of their own, and the boards that they lend.
+#![tactic(auto, using(crate::proofs::Loads::few_modules, crate::proofs::Loads::few_nets, crate::proofs::Loads::few_pins))]
+
 ghost use Rattle.std.specs.Prelude.{◌≡◌, length};
 ghost use Rattle.book.specs.Format as format;
 ghost use Rattle.book.specs.Listed.{listed};
