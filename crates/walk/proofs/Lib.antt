@@ -12,6 +12,5 @@ pub mod Marks
 pub mod Bytes
 pub mod Steps
 pub mod Runs
-pub mod Loads
 pub mod Ended
 pub mod Whole

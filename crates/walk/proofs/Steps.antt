@@ -2,29 +2,37 @@
 use Rattle.std.specs.Prelude.{◌≡◌, ℕ, ◌<◌, ◌≤◌, Bool, true, ◌&&◌, List, length, get_or, ℤ, Some}
 use mathlib.Core.Path.{refl, sym, ap, ap₂, ◌∙◌, subst}
 use native.Mathlib.Omega.{arith}
-use Rattle.line.specs.Card.{Side, Alike, outside, either, price}
-use Rattle.line.specs.Flow.{only}
+use Rattle.line.specs.Card.{Side, Alike, outside, either, price, remark}
+use Rattle.line.specs.Flow.{only, Fair}
 use Rattle.line.proofs.Below.{near_alike}
+use Rattle.line.proofs.Search.{Still}
 use Rattle.book.specs.Checks.{most_modules}
 use Rattle.book.specs.First.{or_else, lowest}
-use Rattle.book.specs.Format.{modules, nets, pins, weight, pin}
+use Rattle.book.specs.Format.{modules, pins, pin}
 use Rattle.book.specs.Sound.{Sound}
 use Rattle.book.specs.Cards as book
 use Rattle.book.proofs.Firsts.{lowest_same}
 use Rattle.book.proofs.Elements.{length_listed}
 use Rattle.side.specs.Sides as sides
+use Rattle.side.specs.Sides.{bytes_for}
 use Rattle.side.specs.Prices.{most_area}
 use Rattle.flow.specs.Cards.{card_of, side_of, Laid}
 use Rattle.flow.specs.Raise.{Raised}
+use Rattle.flow.specs.Board.{board_card}
+use Rattle.flow.specs.declared.board.Board.{Board}
 use Rattle.flow.proofs.CardLaws.{card_valid}
+use Rattle.flow.proofs.Raised.{zeros_fair}
 use Rattle.gate.specs.Gates.{band_says}
 use Rattle.gate.specs.declared.Band.{Band}
 use Rattle.gate.specs.declared.Verdict.{Verdict}
 use Rattle.split.specs.Writes.{Written}
-use Rattle.split.proofs.SameCard.{near_slices, slices_laid}
+use Rattle.split.specs.Boards.{Lends}
+use Rattle.split.specs.Solved.{Slices}
+use Rattle.split.proofs.Loaded.{slices_of}
+use Rattle.split.proofs.SameCard.{near_slices}
 use Rattle.walk.specs.Walk.{Way, Meter, Maker, Turn, Stops, Takes, Row, number, on_cut, free_in, choice, decide, turn, after}
 use Rattle.walk.specs.Parts.{side_from, marks_of, free_in_row, choice_in, CutRow, Pinned}
-use Rattle.walk.specs.Work.{Ground, NearRow, Loaded, Marked, is_meter, Pins, turn_of, Stepped, OneRound}
+use Rattle.walk.specs.Work.{NearRow, Marked, is_meter, Pins, turn_of, Stepped, OneRound}
 use Rattle.walk.proofs.Rounds.{choice_taken, after_three}
 
 -- ---- the near side
@@ -83,31 +91,29 @@ stepped {s} {k} {l} {x} band {a = a} {t = t} e f small said d q v h =
 
 -- ---- the round
 
-module _ (s fs ms ws nt at pl mk : List ℕ) (g : Loaded s fs ms ws nt at pl) (marked : Marked s mk) where
+-- a board with a book's numbers and the marks mk
+module _ (s mk : List ℕ) (sound : Sound s) (marked : Marked s mk) (b : Board) (l : Lends s b) (e : b.mark.now ≡ mk) where
   alike : Alike (modules s) (λ m. get_or mk m 0) (marks_of mk)
   alike m l = refl
 
-  laid : Laid fs ms ws mk
-  laid =
-      rw (g.firsts, g.mods, g.weights) (slices_laid s g.sound mk (marks_of mk) marked.long alike marked.low)
+  pub slices : Slices b.first.now b.mods.now b.weight.now b.mark.now
+  slices = slices_of s sound _ _ _ _ l.firsts l.mods l.weights (ap length e ∙ marked.long) (rw e marked.low)
 
-  pub ground : Ground fs ms ws nt at pl mk
-  ground = record {
-    laid = laid;
-    tables = rw marked.long g.tables;
-    few_modules = omega (arith, marked.long, g.sound.few_modules);
-    few_nets = omega (arith, ap length g.weights ∙ length_listed (weight s) (nets s), g.sound.few_nets);
-    few_pins = omega (arith, ap length g.mods ∙ length_listed (pin s) (pins s), g.sound.few_pins);
-  }
+  pub near_room : (fl : List ℤ) (x : List ℕ) → Still fl → length fl ≡ pins s → bytes_for (modules s) ≤ length x →
+      Slices b.first.now b.mods.now b.weight.now b.mark.now × Fair (board_card b) fl × (length fl ≡ length b.mods.now) × (bytes_for (length b.mark.now) ≤ length x)
+  near_room fl x z p r = (slices, zeros_fair (board_card b) fl z, p ∙ sym (ap length l.mods ∙ length_listed (pin s) (pins s)), omega (arith, ap length e, marked.long, r))
 
-  pub one_round : (band : Band) (x₀ x : List ℕ) (r : Row) (l : List ℕ) → NearRow (card_of fs ms ws mk) x₀ x → Stepped s band mk (sides.side_of x) r l → Marked s l → OneRound s band mk x r l
+  pub near_lent : (x₀ x : List ℕ) → NearRow (board_card b) x₀ x → NearRow (remark (book.card_of s) (marks_of mk)) x₀ x
   unfolding card_of
-  one_round band x₀ x r l n t m = record {
-    round = λ v h. let q = t v h in record {
-      near = near_slices s g.sound mk (marks_of mk) marked.long alike (sides.side_of x) (rw (← g.firsts, ← g.mods, ← g.weights) n.near);
-      written = q.row;
-      marks = q.pins.marks;
-    };
-    spare = subst (λ (k : ℕ). sides.SpareClear x k) marked.long n.spare;
-    marked = m;
+  near_lent x₀ x n = record {
+    long = n.long;
+    near = near_slices s sound mk (marks_of mk) marked.long alike (sides.side_of x) (rw (l.firsts, l.mods, l.weights, e) at n.near);
+    spare = subst (λ (k : ℕ). sides.SpareClear x k) (ap length e ∙ marked.long) n.spare;
   }
+
+pub one_round : (s mk : List ℕ) (band : Band) (x₀ x : List ℕ) (r : Row) (k : List ℕ) → NearRow (remark (book.card_of s) (marks_of mk)) x₀ x → Stepped s band mk (sides.side_of x) r k → OneRound s band mk x r k
+one_round s mk band x₀ x r k n t = record {
+  round = λ v h. let q = t v h in record { near = n.near; written = q.row; marks = q.pins.marks };
+  spare = n.spare;
+  marked = (t (band_says band) (λ a l. refl)).pins.marked;
+}

@@ -1,5 +1,5 @@
 -- From the walk as it ended to what the call leaves (`wrote`), by way of its checks (`long_enough`, `read_refuses`, `read_good`). Assumes nothing.
-use Rattle.std.specs.Prelude.{◌≡◌, ℕ, ◌≤◌, false, ltb, List, length, Result, Ok, Err}
+use Rattle.std.specs.Prelude.{◌≡◌, ℕ, ◌≤◌, true, false, ltb, List, length, Result, Ok, Err, is_ok}
 use mathlib.Core.Path.{ap, ap₂, ◌∙◌}
 use native.Mathlib.Omega.{arith}
 use borrow.Author.Tests.{ltb-false}
@@ -8,10 +8,8 @@ use Rattle.line.proofs.Bools.{or_none}
 use Rattle.book.specs.Checks.{read_of}
 use Rattle.book.specs.Format.{modules, area}
 use Rattle.book.specs.Cards.{card_of, nets_of}
-use Rattle.book.specs.Sound.{Sound}
-use Rattle.book.specs.declared.Book.{Book}
+use Rattle.book.proofs.Netlists.{reads_as}
 use Rattle.book.specs.declared.Refusal.{Refusal}
-use Rattle.side.specs.Given.{Lent}
 use Rattle.side.specs.Sides.{side_of, bytes_for}
 use Rattle.gate.specs.Gates.{band_of, band_says, gate_says}
 use Rattle.gate.specs.declared.Band.{Band}
@@ -48,16 +46,16 @@ wrote s g t b side rows side' rows' w r e f ran fin =
     record { rounds = q.rounds; outcome = outcome_of w; walks = q.walks; left = λ i. record { answer = n i; side = fin.side i; rows = q.bytes i } }
 
 module _ (s : List ℕ) (g : Gate) (side rows : List ℕ) (a : Left) where
-  pub read_good : (b : Book) → read_of s ≡ Ok b → Comes (checked_sound s g side rows) s g side rows a → Walked s g side rows a
+  pub read_good : is_ok (read_of s) ≡ true → Comes (checked_sound s g side rows) s g side rows a → Walked s g side rows a
   unfolding checked_of
-  read_good b e h = rw e h
+  read_good e h = let b = reads_as (read_of s) e in rw b.1 h
 
   pub read_refuses : (why : Refusal) → read_of s ≡ Err why → a ≡ left_by (Err (Refused why)) side rows → Walked s g side rows a
   unfolding checked_of
   read_refuses why e h = rw e h
 
-pub long_enough : (s side rows : List ℕ) → Sound s → too_short s side rows ≡ false → Lent s side × (room_for s ≤ length rows)
+pub long_enough : (s side rows : List ℕ) → too_short s side rows ≡ false → (bytes_for (modules s) ≤ length side) × (room_for s ≤ length rows)
 unfolding too_short
-long_enough s side rows h e =
+long_enough s side rows e =
     let k = or_none (ltb (length side) (bytes_for (modules s))) (ltb (length rows) (room_for s)) e in
-    (record { sound = h; enough = ltb-false (length side) (bytes_for (modules s)) k.0 }, ltb-false (length rows) (room_for s) k.1)
+    (ltb-false (length side) (bytes_for (modules s)) k.0, ltb-false (length rows) (room_for s) k.1)

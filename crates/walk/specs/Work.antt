@@ -1,42 +1,21 @@
--- The slices that a round works on, and what it leaves. This page holds definitions only.
-use Rattle.std.specs.Prelude.{◌≡◌, ℕ, ◌+◌, ◌<◌, ◌≤◌, Bool, true, false, not, List, length}
+-- What a round works on, and what it leaves. This page holds definitions only.
+use Rattle.std.specs.Prelude.{◌≡◌, ℕ, ◌<◌, ◌≤◌, Bool, true, false, not, List, length}
 use Rattle.line.specs.Card.{Card, Side, Near, Alike, price}
-use Rattle.book.specs.Checks.{most_modules, most_nets, most_pins}
-use Rattle.book.specs.Format.{modules, nets, pins, area}
-use Rattle.book.specs.Sound.{Sound}
+use Rattle.book.specs.Format.{modules, area}
 use Rattle.book.specs.Cards as book
 use Rattle.side.specs.Sides.{side_of, SpareClear}
 use Rattle.side.specs.Prices.{most_area}
-use Rattle.flow.specs.Cards.{Laid}
-use Rattle.flow.specs.Search.{Tables}
 use Rattle.gate.specs.Gates.{band_says}
 use Rattle.gate.specs.declared.Band.{Band}
 use Rattle.gate.specs.declared.Verdict.{Verdict}
-use Rattle.split.proofs.SameCard.{firsts_of, mods_of, weights_of}
 use Rattle.walk.specs.Walk.{Way, Meter, Maker, Turn, Row, choice, taking, turn, after_turn, Round}
 use Rattle.walk.specs.Parts.{side_from, marks_of}
-
--- The card that the slices are, within a book's limits, with its tables.
-pub record Ground (fs ms ws nt at pl mk : List ℕ) : Type 0 where
-  pub laid : Laid fs ms ws mk
-  pub tables : Tables fs ms ws nt at pl (length mk)
-  pub few_modules : length mk ≤ most_modules
-  pub few_nets : length ws ≤ most_nets
-  pub few_pins : length ms ≤ most_pins
 
 -- The near side as a row of bits.
 pub record NearRow (c : Card) (old new : List ℕ) : Type 0 where
   pub long : length new ≡ length old
   pub near : Near c (side_of new)
   pub spare : SpareClear new c.modules
-
--- The slices are those of the book.
-pub record Loaded (s fs ms ws nt at pl : List ℕ) : Type 0 where
-  pub sound : Sound s
-  pub firsts : fs ≡ firsts_of s
-  pub mods : ms ≡ mods_of s
-  pub weights : ws ≡ weights_of s
-  pub tables : Tables fs ms ws nt at pl (modules s)
 
 -- One mark a module, 0, 1 or 2.
 pub record Marked (s k : List ℕ) : Type 0 where
@@ -78,12 +57,3 @@ pub record OneRound (s : List ℕ) (b : Band) (k : List ℕ) (x : List ℕ) (r :
   pub round : (v : ℕ → Verdict) → Says b v → Round (book.card_of s) (area s) v (marks_of k) (side_of x) r (marks_of l)
   pub spare : SpareClear x (modules s)
   pub marked : Marked s l
-
--- Room for the book's slices and tables.
-pub record Rooms (s fs ms ws nt at pl : List ℕ) : Type 0 where
-  pub firsts : length fs ≡ nets s + 1
-  pub mods : length ms ≡ pins s
-  pub weights : length ws ≡ nets s
-  pub nets_of : length nt ≡ pins s
-  pub starts : length at ≡ modules s + 1
-  pub pins_of : length pl ≡ pins s

@@ -4,10 +4,11 @@ ghost use Rattle.line.specs.Card.{either};
 ghost use Rattle.line.specs.Flow.{only};
 ghost use Rattle.book.specs.First.{lowest};
 ghost use Rattle.book.specs.Format.{modules, mark};
-ghost use Rattle.book.specs.Sound.{Sound};
 ghost use Rattle.side.specs.Sides.{side_of, bytes_for};
 ghost use Rattle.walk.specs.Walk.{free_in, free_to};
 ghost use Rattle.walk.specs.Parts.{side_from, marks_of, free_in_row, choice_in, Pinned};
+
+use book::netlist::Netlist;
 
 // Whether module m is inside X, or outside it, as is asked.
 fn is_on(x: &[u8], on: bool, m: usize) -> bool
@@ -96,21 +97,20 @@ pub fn pin_side(marks: &mut [u8], x: &[u8], on: bool, m: usize, to: u8)
 }
 
 // One more where module m is free.
-fn free_at(book: &[u8], m: usize) -> usize
-    requires { Sound book.now × (m < modules book.now) }
-    ensures { (free_to (mark book.now) (m + 1) ≡ free_to (mark book.now) m + result) × (result ≤ 1) }
+fn free_at(netlist: Netlist<'_>, m: usize) -> usize
+    requires { m < modules netlist.bytes.now }
+    ensures { (free_to (mark netlist.entry.bytes.now) (m + 1) ≡ free_to (mark netlist.entry.bytes.now) m + result) × (result ≤ 1) }
 {
-    usize::from(book::mark(book, m) == 0)
+    usize::from(netlist.mark(m) == 0)
 }
 
 // The free modules of the book.
-pub fn free_count(book: &[u8]) -> usize
-    requires { Sound book.now }
-    ensures { (result ≡ free_to (mark book.now) (modules book.now)) × (result ≤ modules book.now) }
+pub fn free_count(netlist: Netlist<'_>) -> usize
+    ensures { (result ≡ free_to (mark netlist.entry.bytes.now) (modules netlist.entry.bytes.now)) × (result ≤ modules netlist.entry.bytes.now) }
 {
     let mut sum = 0;
-    for m in 0..book::modules(book) {
-        sum += free_at(book, m);
+    for m in 0..netlist.modules() {
+        sum += free_at(netlist, m);
     }
     sum
 }

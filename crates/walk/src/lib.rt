@@ -1,22 +1,22 @@
 // The balancing walk.
-#![tactic(auto)]
+#![tactic(auto, using(split::proofs::Loads::sound_netlist, split::proofs::Loads::few_modules, split::proofs::Loads::few_pins))]
 
 ghost use Rattle.std.specs.Prelude.{◌≡◌, ◌≤◌, length};
-ghost use Rattle.book.specs.Sound.{Sound};
-ghost use Rattle.side.specs.Given.{Lent};
+ghost use Rattle.book.specs.Format.{modules};
+ghost use Rattle.side.specs.Sides.{bytes_for};
 ghost use Rattle.walk.specs.Walk.{number, taken_of, way_of};
 ghost use Rattle.walk.specs.Work.{is_meter};
 ghost use Rattle.walk.specs.Call.{room_for, too_short, Written, Comes, checked_sound, Walked};
 ghost use Rattle.walk.specs.Answer.{left_by};
 ghost use Rattle.walk.specs.declared.NotDone.TheVariants.{Refused};
 
+use book::netlist::Netlist;
 use book::{Book, Refusal};
 
 mod choose;
 mod cut;
 mod finish;
 mod near;
-mod own;
 mod round;
 mod rows;
 mod run;
@@ -124,46 +124,44 @@ pub struct Standing {
 }
 
 // Check 8: a lent buffer is shorter than this call needs.
-fn is_short(book: &[u8], side: &[u8], rows: &[u8]) -> bool
-    requires { Sound book.now }
-    ensures { result ≡ too_short book.now side.now rows.now }
+fn is_short(netlist: Netlist<'_>, side: &[u8], rows: &[u8]) -> bool
+    ensures { result ≡ too_short netlist.entry.bytes.now side.now rows.now }
 {
-    let room = 12 * (choose::free_count(book) + 1);
-    side::is_short(book, side) | (rows.len() < room)
+    let room = 12 * (choose::free_count(netlist) + 1);
+    side::is_short(netlist, side) | (rows.len() < room)
 }
 
 // The walk where no check refuses.
 fn walk_checked(
-    book: &[u8],
+    netlist: Netlist<'_>,
     gate: gate::Gate,
     side: &mut [u8],
     rows: &mut [u8],
 ) -> Result<Done, NotDone>
-    requires { Lent book.now side.old × (room_for book.now ≤ length rows.old) }
-    ensures { Written book.now gate side.old rows.old (left_by result side.new rows.new) }
+    requires { (bytes_for (modules netlist.bytes.now) ≤ length side.old) × (room_for netlist.bytes.now ≤ length rows.old) }
+    ensures { Written netlist.entry.bytes.now gate side.old rows.old (left_by result side.new rows.new) }
 {
-    let band = gate.band(finish::whole_area(book) as u32);
-    let w = own::run_own(book, band, rows);
-    finish::finish(book, w, side)
+    let band = gate.band(finish::whole_area(netlist) as u32);
+    let w = run::run(netlist, band, rows);
+    finish::finish(netlist, w, side)
 }
 
 // Checks 7 and 8 of a book that reads, and the walk.
 fn walk_sound(
-    book: &[u8],
+    netlist: Netlist<'_>,
     gate: gate::Gate,
     side: &mut [u8],
     rows: &mut [u8],
 ) -> Result<Done, NotDone>
-    requires { Sound book.now }
-    ensures { Comes (checked_sound book.now gate side.old rows.old) book.now gate side.old rows.old (left_by result side.new rows.new) }
+    ensures { Comes (checked_sound netlist.entry.bytes.now gate side.old rows.old) netlist.entry.bytes.now gate side.old rows.old (left_by result side.new rows.new) }
 {
     if !gate.good() {
         return Err(NotDone::Refused(Refusal::Gate));
     }
-    if is_short(book, &*side, &*rows) {
+    if is_short(netlist, &*side, &*rows) {
         return Err(NotDone::Refused(Refusal::Buffer));
     }
-    walk_checked(book, gate, side, rows)
+    walk_checked(netlist, gate, side, rows)
 }
 
 // The balancing walk on any bytes: checks 1 to 6, 7 and 8 first. The side is written where the walk stops, and the rows where no check refuses.
@@ -175,6 +173,6 @@ pub fn walk(
 ) -> Result<Done, NotDone>
     ensures { Walked book.now gate side.old rows.old (left_by result side.new rows.new) }
 {
-    book::read(book)?;
-    walk_sound(book, gate, side, rows)
+    let netlist = Netlist::new(book)?;
+    walk_sound(netlist, gate, side, rows)
 }

@@ -1,28 +1,27 @@
 // One round of the walk.
 ghost use Rattle.std.specs.Prelude.{◌≡◌, ◌≤◌, length};
-ghost use Rattle.line.specs.Flow.{Fair};
-ghost use Rattle.book.specs.Format.{modules};
-ghost use Rattle.book.specs.Cards as card;
-ghost use Rattle.side.specs.Given.{Lent};
+ghost use Rattle.book.specs.Format.{modules, pins};
+ghost use Rattle.book.specs.Cards.{card_of};
 ghost use Rattle.side.specs.Sides.{side_of, bytes_for};
-ghost use Rattle.flow.specs.Cards.{card_of};
 ghost use Rattle.walk.specs.Walk.{choice};
 ghost use Rattle.walk.specs.Parts.{marks_of, side_from};
-ghost use Rattle.walk.specs.Work.{Loaded, Marked, taking_from, Pins, Stepped, OneRound};
+ghost use Rattle.walk.specs.Work.{Marked, taking_from, Pins, Stepped, OneRound};
 
 use crate::choose::Candidates;
 use crate::{Row, Turn, Way};
+use side::Sided;
+use split::numbers::Numbers;
 
 // The module that a round takes inside X, or outside it, as is asked.
-fn seek(book: &[u8], marks: &[u8], x: &[u8], on: bool) -> Option<usize>
-    requires { Lent book.now x.now × Marked book.now marks.now }
-    ensures { result ≡ choice (card.card_of book.now) (marks_of marks.now) (side_of x.now) (side_from on (side_of x.now)) }
+fn seek(sided: Sided<'_>, marks: &[u8], on: bool) -> Option<usize>
+    requires { Marked sided.netlist.bytes.now marks.now }
+    ensures { result ≡ choice (card_of sided.entry.netlist.bytes.now) (marks_of marks.now) (side_of sided.entry.bits.now) (side_from on (side_of sided.entry.bits.now)) }
 {
     let mut cut: [u8; crate::SIDE] = [0; crate::SIDE];
-    crate::cut::cut_row(book, x, &mut cut);
+    crate::cut::cut_row(sided, &mut cut);
     let from = Candidates {
         marks,
-        x,
+        x: sided.bits,
         on,
         cut: &cut,
     };
@@ -30,14 +29,14 @@ fn seek(book: &[u8], marks: &[u8], x: &[u8], on: bool) -> Option<usize>
 }
 
 // Below low: pins all of X to the meter, and one free module outside X. Above high: pins all outside X to the maker, and one free module inside X. If there is none, ends with 14.
-fn take_one(book: &[u8], marks: &mut [u8], x: &[u8], way: Way) -> Turn
-    requires { Lent book.now x.now × Marked book.now marks.old }
-    ensures { (result ≡ taking_from book.now (marks_of marks.old) (side_of x.now) way) × Pins book.now marks.old (side_of x.now) result marks.new }
+fn take_one(sided: Sided<'_>, marks: &mut [u8], way: Way) -> Turn
+    requires { Marked sided.netlist.bytes.now marks.old }
+    ensures { (result ≡ taking_from sided.entry.netlist.bytes.now (marks_of marks.old) (side_of sided.entry.bits.now) way) × Pins sided.entry.netlist.bytes.now marks.old (side_of sided.entry.bits.now) result marks.new }
 {
     let meter = way.is_meter();
-    match seek(book, &*marks, x, !meter) {
+    match seek(sided, &*marks, !meter) {
         Some(m) => {
-            crate::choose::pin_side(&mut *marks, x, meter, m, way.number());
+            crate::choose::pin_side(&mut *marks, sided.bits, meter, m, way.number());
             Turn::Takes(way, m as u16)
         }
         None => Turn::Ends,
@@ -45,39 +44,35 @@ fn take_one(book: &[u8], marks: &mut [u8], x: &[u8], way: Way) -> Turn
 }
 
 // A round with X known: its area is compared with the band.
-fn step(book: &[u8], band: gate::Band, marks: &mut [u8], x: &[u8]) -> Row
-    requires { Lent book.now x.now × Marked book.now marks.old }
-    ensures { Stepped book.now band marks.old (side_of x.now) result marks.new }
+fn step(sided: Sided<'_>, band: gate::Band, marks: &mut [u8]) -> Row
+    requires { Marked sided.netlist.bytes.now marks.old }
+    ensures { Stepped sided.entry.netlist.bytes.now band marks.old (side_of sided.entry.bits.now) result marks.new }
 {
-    let price = side::price_of(book, x) as u32;
-    let area = side::area(book, x) as u32;
+    let price = sided.price() as u32;
+    let area = sided.area() as u32;
     let turn = match band.says(area) {
-        gate::Verdict::Below => take_one(book, marks, x, Way::Meter),
+        gate::Verdict::Below => take_one(sided, marks, Way::Meter),
         gate::Verdict::Within => Turn::Stops,
-        gate::Verdict::Above => take_one(book, marks, x, Way::Maker),
+        gate::Verdict::Above => take_one(sided, marks, Way::Maker),
     };
     Row { price, area, turn }
 }
 
-// A round on the book's slices, from any flow that is fair for the marks.
+// A round from the marks.
 pub fn round_on(
-    book: &[u8],
+    numbers: &Numbers<'_>,
     band: gate::Band,
-    first: &[u16],
-    mods: &[u16],
-    weight: &[u16],
-    nets: &[u16],
-    at: &[u16],
-    pins: &[u16],
     marks: &mut [u8],
     flow: &mut [i32],
     x: &mut [u8],
 ) -> Row
-    requires { Loaded book.now first.now mods.now weight.now nets.now at.now pins.now × Marked book.now marks.old × Fair (card_of first.now mods.now weight.now marks.old) flow.old × (length flow.old ≡ length mods.now) × (bytes_for (modules book.now) ≤ length x.old) }
-    ensures { OneRound book.now band marks.old x.new result marks.new }
+    requires { Marked numbers.now.netlist.bytes.now marks.old × (length flow.old ≡ pins numbers.now.netlist.bytes.now) × (bytes_for (modules numbers.now.netlist.bytes.now) ≤ length x.old) }
+    ensures { OneRound numbers.now.netlist.bytes.now band marks.old x.new result marks.new }
 {
-    crate::near::near(
-        first, mods, weight, nets, at, pins, &*marks, &mut *flow, &mut *x,
-    );
-    step(book, band, &mut *marks, &*x)
+    crate::near::near(&*numbers, &*marks, flow, &mut *x);
+    let sided = Sided {
+        netlist: numbers.netlist,
+        bits: &*x,
+    };
+    step(sided, band, &mut *marks)
 }

@@ -6,5 +6,4 @@ use Rattle.walk.proofs.walk_sound.Goals as goal
 pub walk_checked-requires : goal.walk_checked-requires
 walk_checked-requires c =
     let a = c.args in
-    let p = c.requires in
-    long_enough a.book.now a.side.now a.rows.now p (sym c.is_short.ensures ∙ c.if-is_short.false)
+    long_enough a.netlist.bytes.now a.side.now a.rows.now (sym c.is_short.ensures ∙ c.if-is_short.false)

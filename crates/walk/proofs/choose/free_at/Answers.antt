@@ -4,4 +4,4 @@ use Rattle.book.specs.Format.{mark}
 use Rattle.walk.proofs.choose.free_at.Goals as goal
 
 pub returns : goal.returns
-returns c = free_more (mark c.args.book.now) c.args.m c.mark.result c.from.result c.mark.ensures.0 c.from.ensures
+returns c = free_more (mark c.args.netlist.bytes.now) c.args.m c.mark.result c.from.result c.mark.ensures.0 c.from.ensures

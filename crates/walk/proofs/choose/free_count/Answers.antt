@@ -5,4 +5,4 @@ use native.Mathlib.Omega.{arith}
 use Rattle.walk.proofs.choose.free_count.Goals as goal
 
 pub loop-m-init : goal.loop-m-init
-loop-m-init c = (none_free (mark c.args.book.now), omega arith)
+loop-m-init c = (none_free (mark c.args.netlist.bytes.now), omega arith)

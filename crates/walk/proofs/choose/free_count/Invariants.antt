@@ -6,4 +6,4 @@ use Rattle.walk.proofs.choose.free_count.Given as goal
 
 abbrev pub invariant-loop-m : goal.invariant-loop-m
 invariant-loop-m l =
-    (l.sum ≡ free_to (mark l.book) l.m) × (l.sum ≤ l.m)
+    (l.sum ≡ free_to (mark l.netlist.bytes.now) l.m) × (l.sum ≤ l.m)

@@ -9,4 +9,4 @@ use Rattle.walk.proofs.cut.cut_row.Given as goal
 
 abbrev pub invariant-loop-n : goal.invariant-loop-n
 invariant-loop-n l =
-    (l.first ≡ first_pin l.book l.n) × Adds (on_cut (take l.n (nets_of l.book)) (side_of l.x)) l.initial.out l.out
+    (l.first ≡ first_pin l.sided.netlist.bytes.now l.n) × Adds (on_cut (take l.n (nets_of l.sided.netlist.bytes.now)) (side_of l.sided.bits.now)) l.initial.out l.out

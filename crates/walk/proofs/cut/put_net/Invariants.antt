@@ -8,4 +8,4 @@ use Rattle.walk.proofs.cut.put_net.Given as goal
 
 abbrev pub invariant-loop-j : goal.invariant-loop-j
 invariant-loop-j l =
-    Adds (λ m. touches (only m) (take l.j (pins_of l.book l.n))) l.initial.out l.out
+    Adds (λ m. touches (only m) (take l.j (pins_of l.netlist.bytes.now l.n))) l.initial.out l.out

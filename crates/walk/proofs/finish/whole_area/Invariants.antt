@@ -7,4 +7,4 @@ use Rattle.walk.proofs.finish.whole_area.Given as goal
 
 abbrev pub invariant-loop-m : goal.invariant-loop-m
 invariant-loop-m l =
-    (l.sum ≡ area_to (area l.book) (λ m. true) l.m) × (l.sum ≤ most_number * l.m)
+    (l.sum ≡ area_to (area l.netlist.bytes.now) (λ m. true) l.m) × (l.sum ≤ most_number * l.m)

@@ -8,4 +8,5 @@ pub returns : goal.returns
 returns c =
     let a = c.args in
     let p = c.requires in
-    side_over (modules a.book.now) a.x.now (λ i. omega (arith, (c.type_inv.x i).fits)) p.0.enough p.2 c.modules.result a.side.now _ c.modules.ensures c.copy_from_slice.ensures.after
+    let n = a.netlist.bytes.now in
+    side_over (modules n) a.x.now (λ i. omega (arith, (c.type_inv.x i).fits)) p.0 p.2 c.modules.result a.side.now _ c.modules.ensures c.copy_from_slice.ensures.after

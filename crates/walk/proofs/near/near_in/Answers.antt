@@ -9,4 +9,5 @@ returns c =
     let p = c.requires in
     let raise' = c.raise in
     let write-side' = c.write_side in
-    near_row a.first.now a.mods.now a.weight.now a.mark.now p.0.laid _ _ a.x.now _ _ (raise'.auto.how ∙ p.0.how) raise'.ensures write-side'.ensures
+    let b = a.board.now in
+    near_row b.first.now b.mods.now b.weight.now b.mark.now p.0.laid _ _ a.x.now _ _ (raise'.auto.how ∙ p.0.how) raise'.ensures write-side'.ensures

@@ -10,4 +10,4 @@ returns c =
     let a = c.args in
     let p = c.requires in
     let cut-row' = c.cut_row in
-    c.choose.ensures ∙ choice_row a.book.now a.marks.now (side_of a.x.now) (side_from a.on (side_of a.x.now)) _ _ p.1.long cut-row'.ensures
+    c.choose.ensures ∙ choice_row a.sided.netlist.bytes.now a.marks.now (side_of a.sided.bits.now) (side_from a.on (side_of a.sided.bits.now)) _ _ p.long cut-row'.ensures

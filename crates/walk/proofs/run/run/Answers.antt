@@ -1,41 +1,22 @@
--- `walk::run::run` meets its contract: the walk stands at its marks, with its rows written; fewer modules are free after each round. Assumes nothing.
-use Rattle.walk.proofs.Runs.{going_start, going_room, going_few, going_again, going_less, going_ended}
-use Rattle.flow.proofs.Raised.{zeros_fair}
-use mathlib.Core.Path.{refl, ◌∙◌}
+-- `walk::run::run` meets its contract: the numbers are the book's. Assumes nothing.
+use Rattle.std.specs.Prelude.{◌≤◌, List, ℕ, length}
+use denote.Bor.{Bor}
+use mathlib.Core.Path.{sym, ap, subst, ◌∙◌}
+use lib.Seq.{length-take-le}
 use native.Mathlib.Omega.{arith}
+use Rattle.book.specs.Format.{pins}
+use Rattle.split.proofs.Loads.{few_pins}
+use Rattle.walk.specs.Call.{room_for}
+use Rattle.walk.specs.Runs.{Ran}
 use Rattle.walk.proofs.run.run.Goals as goal
 
-pub loop-w-init : goal.loop-w-init
-loop-w-init c = (going_start c.requires.0.sound c.start-w.ensures.1 c.start-w.ensures.0, refl)
+pub slice_bounds-run_on-end : goal.slice_bounds-run_on-end
+slice_bounds-run_on-end c = sym (length-take-le _ _ (omega (arith, c.pins-p.ensures, few_pins c.args.netlist)))
 
-pub overflow_mul-place : goal.overflow_mul-place
-overflow_mul-place c = record { fits = omega (arith, going_few c.requires.0.sound c.loop-w.invariant.0) }
+pub run_on-requires : goal.run_on-requires
+run_on-requires c =
+    let e = sym c.of-numbers.ensures in
+    (length-take-le _ _ (omega (arith, c.pins-p.ensures, few_pins c.args.netlist)) ∙ c.pins-p.ensures ∙ ap (λ (b : Bor (List ℕ)). pins b.now) e, subst (λ (b : Bor (List ℕ)). room_for b.now ≤ length c.args.rows.now) e c.requires)
 
-pub round-w-requires : goal.round-w-requires
-round-w-requires c =
-    let p = c.requires in
-    let i = c.loop-w.invariant in
-    (p.0, i.0.marked, zeros_fair _ _ c.still.ensures, c.still.auto.flow ∙ i.1 ∙ p.1, going_few p.0.sound i.0)
-
-pub put_row-requires : goal.put_row-requires
-put_row-requires c = omega (arith, going_room c.requires.0.sound c.loop-w.invariant.0 c.requires.2)
-
-pub returns-in-Stops : goal.returns-in-Stops
-returns-in-Stops c =
-    let p = c.requires in
-    let w = c.round-w in
-    going_ended p.0.sound c.loop-w.invariant.0 w.ensures.0 p.2 c.put_row.ensures w.result refl refl w.ensures.1 c.in-Stops.is
-
-pub loop-w-smaller : goal.loop-w-smaller
-loop-w-smaller c =
-    let p = c.requires in
-    let t = c.in-Takes in
-    going_less p.0.sound c.loop-w.invariant.0 c.round-w.ensures.0 p.2 c.put_row.ensures t.field-0 t.field-1 t.is
-
-pub loop-w-preserved : goal.loop-w-preserved
-loop-w-preserved c =
-    let p = c.requires in
-    let i = c.loop-w.invariant in
-    let w = c.round-w in
-    let t = c.in-Takes in
-    (going_again p.0.sound i.0 w.ensures.0 p.2 c.put_row.ensures w.ensures.1 t.field-0 t.field-1 t.is, w.auto.flow ∙ c.still.auto.flow ∙ i.1)
+pub returns : goal.returns
+returns c = subst (λ (b : Bor (List ℕ)). Ran b.now c.args.band c.args.rows.now c.run_on.new.rows c.run_on.result) c.of-numbers.ensures c.run_on.ensures
