@@ -26,7 +26,7 @@ fn read_full<R: Read>(input: &mut R, bytes: &mut [u8]) -> io::Result<usize>
 
 // Writes the listing of what came in to standard output.
 fn print(rt: &impl Print, input: &[u8], text: &mut [u8]) -> io::Result<()> {
-    if let view::Listed::Text(n) = view::list(input, &mut *text) {
+    if let Some(n) = view::list(input, &mut *text) {
         rt.write_all(&text[..n])?;
     }
     Ok(())

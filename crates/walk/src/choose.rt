@@ -101,7 +101,7 @@ fn free_at(netlist: Netlist<'_>, m: usize) -> usize
     requires { m < modules netlist.bytes.now }
     ensures { (free_to (mark netlist.entry.bytes.now) (m + 1) ≡ free_to (mark netlist.entry.bytes.now) m + result) × (result ≤ 1) }
 {
-    usize::from(netlist.mark(m) == 0)
+    usize::from(netlist.mark(m).is_free())
 }
 
 // The free modules of the book.
