@@ -1,280 +1,227 @@
 // The rows of the table on the checker: values, marks, and what it is lent.
-use crate::{make, say};
+use crate::answers;
+use crate::cards::{MAKERS, METERS, WITHOUT_NETS};
 use std::io;
+use trial::{BRIDGE, Card, Put};
 
-// The call, on the first `length` bytes.
-fn part(
-    rt: &impl Print,
-    book: &[u8],
-    length: usize,
+// A flow and a claimed price.
+#[derive(Clone, Copy)]
+pub struct Claim<'a>(pub &'a str, pub &'a [i32], pub u32);
+
+// A side, a flow and a claimed price.
+#[derive(Clone, Copy)]
+struct Sided<'a>(&'a str, &'a [u8], &'a [i32], u32);
+
+// Bridge with numbers put over its own, cut to a length, and what is lent with it.
+#[derive(Clone, Copy)]
+struct Damaged<'a>(&'a str, usize, &'a [Put], &'a [u8], &'a [i32], u32);
+
+// Refusal 13: the value, the price of the side and the claimed price.
+static VALUES: [Claim<'static>; 8] = [
+    Claim("its flow", &[1, -1, 1, -1, 1, -1], 1),
+    Claim("claimed price 2", &[1, -1, 1, -1, 1, -1], 2),
+    Claim("claimed price 0", &[1, -1, 1, -1, 1, -1], 0),
+    Claim(
+        "claimed price 4294967295",
+        &[1, -1, 1, -1, 1, -1],
+        4294967295,
+    ),
+    Claim("sent back", &[-1, 1, -1, 1, -1, 1], 1),
+    Claim(
+        "sent back, claimed price 4294967295",
+        &[-1, 1, -1, 1, -1, 1],
+        4294967295,
+    ),
+    Claim("no flow", &[0, 0, 0, 0, 0, 0], 1),
+    Claim("no flow, claimed price 0", &[0, 0, 0, 0, 0, 0], 0),
+];
+
+static OTHER_SIDES: [Sided<'static>; 2] = [
+    Sided("side {0}", b"\x01", &[1, -1, 1, -1, 1, -1], 1),
+    Sided(
+        "side {0}, claimed price 2",
+        b"\x01",
+        &[1, -1, 1, -1, 1, -1],
+        2,
+    ),
+];
+
+static BARE: [Claim<'static>; 3] = [
+    Claim("claimed price 0", &[], 0),
+    Claim("claimed price 1", &[], 1),
+    Claim("claimed price 0 and a tail", &[1, -2, 3], 0),
+];
+
+// Marked modules have no rule, and the value adds up all meter modules.
+static METER_FLOWS: [Claim<'static>; 5] = [
+    Claim("meter 1, flow between meters", &[2, -2, 1, -1, 1, -1], 1),
+    Claim(
+        "meter 1, flow back between meters",
+        &[-2, 2, 1, -1, 1, -1],
+        1,
+    ),
+    Claim("meter 1, flow from it alone", &[0, 0, 1, -1, 1, -1], 1),
+    Claim(
+        "meter 1, flow between meters alone",
+        &[1, -1, 0, 0, 0, 0],
+        1,
+    ),
+    Claim("meter 1, claimed price 2", &[2, -2, 1, -1, 1, -1], 2),
+];
+
+static MAKER_FLOWS: [Claim<'static>; 3] = [
+    Claim("maker 2, flow between makers", &[1, -1, 1, -1, 2, -2], 1),
+    Claim(
+        "maker 2, flow back between makers",
+        &[1, -1, 1, -1, -2, 2],
+        1,
+    ),
+    Claim(
+        "maker 2, flow between makers alone",
+        &[0, 0, 0, 0, 1, -1],
+        1,
+    ),
+];
+
+// Refusal 8: both lent buffers, before any bit of the side.
+static SHORT: [Sided<'static>; 8] = [
+    Sided("no byte", b"", &[1, -1, 1, -1, 1, -1], 1),
+    Sided("no byte and a short flow", b"", &[1, -1, 1, -1, 1], 1),
+    Sided("no byte and a broken flow", b"", &[2, -1, 1, -1, 1, -1], 1),
+    Sided("no byte and no number", b"", &[], 1),
+    Sided("side {1} and a short flow", b"\x02", &[1, -1, 1, -1, 1], 1),
+    Sided("flow short by one", b"\x03", &[1, -1, 1, -1, 1], 1),
+    Sided(
+        "flow broken and short by one",
+        b"\x03",
+        &[2, -1, 1, -1, 1],
+        1,
+    ),
+    Sided("no number", b"\x03", &[], 1),
+];
+
+// Refusal 9, and tails.
+static SIDES: [Sided<'static>; 6] = [
+    Sided("side {1}", b"\x02", &[1, -1, 1, -1, 1, -1], 1),
+    Sided("side {0, 3}", b"\x09", &[1, -1, 1, -1, 1, -1], 1),
+    Sided(
+        "side {0, 1} with a spare bit set",
+        b"\x13",
+        &[1, -1, 1, -1, 1, -1],
+        1,
+    ),
+    Sided(
+        "side {1} and a broken flow",
+        b"\x02",
+        &[2, -1, 1, -1, 1, -1],
+        1,
+    ),
+    Sided("a tail of the side", b"\x03\xFF", &[1, -1, 1, -1, 1, -1], 1),
+    Sided(
+        "a tail of the flow",
+        b"\x03",
+        &[1, -1, 1, -1, 1, -1, 2147483647, -2147483648],
+        1,
+    ),
+];
+
+// Books that are refused, whatever else is lent.
+static BOOKS: [Damaged<'static>; 6] = [
+    Damaged(
+        "Bridge cut short, all else good",
+        71,
+        &[],
+        b"\x03",
+        &[1, -1, 1, -1, 1, -1],
+        1,
+    ),
+    Damaged(
+        "Bridge cut short, no byte and no number",
+        71,
+        &[],
+        b"",
+        &[],
+        2,
+    ),
+    Damaged(
+        "Bridge with area 0 of module 2 and a short flow",
+        72,
+        &[Put(40, 0)],
+        b"\x03",
+        &[1],
+        1,
+    ),
+    Damaged(
+        "Bridge with weight 0 of net 1 and a broken flow",
+        72,
+        &[Put(52, 0)],
+        b"\x03",
+        &[2, -1, 1, -1, 1, -1],
+        1,
+    ),
+    Damaged(
+        "Bridge with pin 5 on module 4 and a broken flow",
+        72,
+        &[Put(70, 4)],
+        b"\x03",
+        &[2, -1, 1, -1, 1, -1],
+        1,
+    ),
+    Damaged(
+        "Bridge with no meter and no number",
+        72,
+        &[Put(34, 0)],
+        b"\x03",
+        &[],
+        1,
+    ),
+];
+
+// The rows of a card, all with one side.
+pub fn show(
+    rt: &(impl Print + AllocGlobal),
+    name: &str,
+    card: &Card<'_>,
     side: &[u8],
-    flow: &[i32],
-    price: u32,
+    rows: &[Claim<'_>],
 ) -> io::Result<()> {
-    if length <= book.len() {
-        say::checked(rt, audit::check(&book[..length], side, flow, price))?;
+    let book = card.book(rt.alloc())?;
+    for Claim(claim, flow, price) in rows {
+        println!(rt;
+            "{name}{claim}: {}",
+            answers::check(&book, side, flow, *price)
+        )?;
     }
     Ok(())
 }
 
-pub fn shown(
-    rt: &impl Print,
-    book: &[u8; 8000],
-    length: usize,
-    side: &[u8],
-    flow: &[i32],
-    price: u32,
-) -> io::Result<()> {
-    part(rt, book, length, side, flow, price)
-}
-
 // Bridge, with any side.
-fn sided(rt: &impl Print, name: &[u8], side: &[u8], flow: &[i32], price: u32) -> io::Result<()> {
-    let book = make::bridge();
-    say::text(rt, b"Bridge, ")?;
-    say::text(rt, name)?;
-    shown(rt, &book, 72, side, flow, price)
+fn show_sided(rt: &(impl Print + AllocGlobal), rows: &[Sided<'_>]) -> io::Result<()> {
+    let book = BRIDGE.book(rt.alloc())?;
+    for Sided(name, side, flow, price) in rows {
+        println!(rt;
+            "Bridge, {name}: {}",
+            answers::check(&book, side, flow, *price)
+        )?;
+    }
+    Ok(())
 }
 
-// Bridge, and the side {0, 1}.
-pub fn bridge(rt: &impl Print, name: &[u8], flow: &[i32], price: u32) -> io::Result<()> {
-    sided(rt, name, b"\x03", flow, price)
+fn show_damaged(rt: &(impl Print + AllocGlobal), rows: &[Damaged<'_>]) -> io::Result<()> {
+    for Damaged(name, size, puts, side, flow, price) in rows {
+        let book = BRIDGE.edited(rt.alloc(), puts, *size)?;
+        println!(rt; "{name}: {}", answers::check(&book, side, flow, *price))?;
+    }
+    Ok(())
 }
 
-// Bridge with one number put over its own, and the side {0, 1}.
-fn edited(
-    rt: &impl Print,
-    name: &[u8],
-    at: usize,
-    x: usize,
-    flow: &[i32],
-    price: u32,
-) -> io::Result<()> {
-    let mut book = make::bridge();
-    make::put16(&mut book, at, x);
-    say::text(rt, b"Bridge with ")?;
-    say::text(rt, name)?;
-    shown(rt, &book, 72, b"\x03", flow, price)
-}
-
-// Bridge without its last byte.
-fn cut_short(
-    rt: &impl Print,
-    name: &[u8],
-    side: &[u8],
-    flow: &[i32],
-    price: u32,
-) -> io::Result<()> {
-    let book = make::bridge();
-    say::text(rt, b"Bridge cut short, ")?;
-    say::text(rt, name)?;
-    shown(rt, &book, 71, side, flow, price)
-}
-
-// Two modules without a net, and the side {0}.
-fn bare(rt: &impl Print, name: &[u8], flow: &[i32], price: u32) -> io::Result<()> {
-    let mut book = [0u8; 8000];
-    make::put_contents(&mut book, 8, 0, 0);
-    make::put_modules(&mut book, 2);
-    say::text(rt, b"no nets, ")?;
-    say::text(rt, name)?;
-    shown(rt, &book, 40, b"\x01", flow, price)
-}
-
-// Refusal 13: the value, the price of the side and the claimed price.
-fn values(rt: &impl Print) -> io::Result<()> {
-    bridge(rt, b"its flow", &[1, -1, 1, -1, 1, -1], 1)?;
-    bridge(rt, b"claimed price 2", &[1, -1, 1, -1, 1, -1], 2)?;
-    bridge(rt, b"claimed price 0", &[1, -1, 1, -1, 1, -1], 0)?;
-    bridge(
-        rt,
-        b"claimed price 4294967295",
-        &[1, -1, 1, -1, 1, -1],
-        4294967295,
-    )?;
-    bridge(rt, b"sent back", &[-1, 1, -1, 1, -1, 1], 1)?;
-    bridge(
-        rt,
-        b"sent back, claimed price 4294967295",
-        &[-1, 1, -1, 1, -1, 1],
-        4294967295,
-    )?;
-    bridge(rt, b"no flow", &[0, 0, 0, 0, 0, 0], 1)?;
-    bridge(rt, b"no flow, claimed price 0", &[0, 0, 0, 0, 0, 0], 0)?;
-    sided(rt, b"side {0}", b"\x01", &[1, -1, 1, -1, 1, -1], 1)?;
-    sided(
-        rt,
-        b"side {0}, claimed price 2",
-        b"\x01",
-        &[1, -1, 1, -1, 1, -1],
-        2,
-    )
-}
-
-fn without_nets(rt: &impl Print) -> io::Result<()> {
-    bare(rt, b"claimed price 0", &[], 0)?;
-    bare(rt, b"claimed price 1", &[], 1)?;
-    bare(rt, b"claimed price 0 and a tail", &[1, -2, 3], 0)
-}
-
-// Marked modules have no rule, and the value adds up all meter modules.
-fn meters(rt: &impl Print) -> io::Result<()> {
-    edited(
-        rt,
-        b"meter 1, flow between meters",
-        38,
-        1,
-        &[2, -2, 1, -1, 1, -1],
-        1,
-    )?;
-    edited(
-        rt,
-        b"meter 1, flow back between meters",
-        38,
-        1,
-        &[-2, 2, 1, -1, 1, -1],
-        1,
-    )?;
-    edited(
-        rt,
-        b"meter 1, flow from it alone",
-        38,
-        1,
-        &[0, 0, 1, -1, 1, -1],
-        1,
-    )?;
-    edited(
-        rt,
-        b"meter 1, flow between meters alone",
-        38,
-        1,
-        &[1, -1, 0, 0, 0, 0],
-        1,
-    )?;
-    edited(
-        rt,
-        b"meter 1, claimed price 2",
-        38,
-        1,
-        &[2, -2, 1, -1, 1, -1],
-        2,
-    )
-}
-
-fn makers(rt: &impl Print) -> io::Result<()> {
-    edited(
-        rt,
-        b"maker 2, flow between makers",
-        42,
-        2,
-        &[1, -1, 1, -1, 2, -2],
-        1,
-    )?;
-    edited(
-        rt,
-        b"maker 2, flow back between makers",
-        42,
-        2,
-        &[1, -1, 1, -1, -2, 2],
-        1,
-    )?;
-    edited(
-        rt,
-        b"maker 2, flow between makers alone",
-        42,
-        2,
-        &[0, 0, 0, 0, 1, -1],
-        1,
-    )
-}
-
-// Refusal 8: both lent buffers, before any bit of the side.
-fn short(rt: &impl Print) -> io::Result<()> {
-    sided(rt, b"no byte", b"", &[1, -1, 1, -1, 1, -1], 1)?;
-    sided(rt, b"no byte and a short flow", b"", &[1, -1, 1, -1, 1], 1)?;
-    sided(
-        rt,
-        b"no byte and a broken flow",
-        b"",
-        &[2, -1, 1, -1, 1, -1],
-        1,
-    )?;
-    sided(rt, b"no byte and no number", b"", &[], 1)?;
-    sided(
-        rt,
-        b"side {1} and a short flow",
-        b"\x02",
-        &[1, -1, 1, -1, 1],
-        1,
-    )?;
-    bridge(rt, b"flow short by one", &[1, -1, 1, -1, 1], 1)?;
-    bridge(rt, b"flow broken and short by one", &[2, -1, 1, -1, 1], 1)?;
-    bridge(rt, b"no number", &[], 1)
-}
-
-// Refusal 9, and tails.
-fn sides(rt: &impl Print) -> io::Result<()> {
-    sided(rt, b"side {1}", b"\x02", &[1, -1, 1, -1, 1, -1], 1)?;
-    sided(rt, b"side {0, 3}", b"\x09", &[1, -1, 1, -1, 1, -1], 1)?;
-    sided(
-        rt,
-        b"side {0, 1} with a spare bit set",
-        b"\x13",
-        &[1, -1, 1, -1, 1, -1],
-        1,
-    )?;
-    sided(
-        rt,
-        b"side {1} and a broken flow",
-        b"\x02",
-        &[2, -1, 1, -1, 1, -1],
-        1,
-    )?;
-    sided(
-        rt,
-        b"a tail of the side",
-        b"\x03\xFF",
-        &[1, -1, 1, -1, 1, -1],
-        1,
-    )?;
-    bridge(
-        rt,
-        b"a tail of the flow",
-        &[1, -1, 1, -1, 1, -1, 2147483647, -2147483648],
-        1,
-    )
-}
-
-// Books that are refused, whatever else is lent.
-fn books(rt: &impl Print) -> io::Result<()> {
-    cut_short(rt, b"all else good", b"\x03", &[1, -1, 1, -1, 1, -1], 1)?;
-    cut_short(rt, b"no byte and no number", b"", &[], 2)?;
-    edited(rt, b"area 0 of module 2 and a short flow", 40, 0, &[1], 1)?;
-    edited(
-        rt,
-        b"weight 0 of net 1 and a broken flow",
-        52,
-        0,
-        &[2, -1, 1, -1, 1, -1],
-        1,
-    )?;
-    edited(
-        rt,
-        b"pin 5 on module 4 and a broken flow",
-        70,
-        4,
-        &[2, -1, 1, -1, 1, -1],
-        1,
-    )?;
-    edited(rt, b"no meter and no number", 34, 0, &[], 1)
-}
-
-pub fn run(rt: &impl Print) -> io::Result<()> {
-    values(rt)?;
-    without_nets(rt)?;
-    meters(rt)?;
-    makers(rt)?;
-    short(rt)?;
-    sides(rt)?;
-    books(rt)
+pub fn run(rt: &(impl Print + AllocGlobal)) -> io::Result<()> {
+    show(rt, "Bridge, ", &BRIDGE, b"\x03", &VALUES)?;
+    show_sided(rt, &OTHER_SIDES)?;
+    show(rt, "no nets, ", &WITHOUT_NETS, b"\x01", &BARE)?;
+    show(rt, "Bridge with ", &METERS, b"\x03", &METER_FLOWS)?;
+    show(rt, "Bridge with ", &MAKERS, b"\x03", &MAKER_FLOWS)?;
+    show_sided(rt, &SHORT)?;
+    show_sided(rt, &SIDES)?;
+    show_damaged(rt, &BOOKS)
 }

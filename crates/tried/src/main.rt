@@ -1,11 +1,11 @@
 // The desk's table, run: each case prints its name and its answer, and the file `stdout` has what they should be.
 #![tactic(auto)]
 
+mod answers;
+mod cards;
 mod checks;
-mod make;
 mod reader;
 mod rules;
-mod say;
 mod sides;
 
 use std::io;

@@ -1,197 +1,112 @@
-// The split on lent buffers that are marked all over: 0xA5 in a side, 77 in a flow.
-ghost use Rattle.std.specs.Prelude.{◌<◌};
-
-use crate::{make, say};
+// The split on lent buffers that are marked all over.
+use audit::Checked;
+use book::Refusal;
 use split::Parted;
+use std::alloc::{AllocError, Global};
 use std::io;
+use trial::{Answer, Card, Modules, Refused};
 
-// What is known of a row beforehand: the modules and pins of its book, and whether the checker is asked.
+// What a side and a flow are marked with.
+const BYTE: u8 = 0xA5;
+
+const NUMBER: i32 = 77;
+
+// From so many modules on a book is large: its far side is printed by what it lacks, and the checker, which takes an interpreter long, is left out.
+const LARGE: usize = 64;
+
+// The lengths of the buffers: bytes of near, bytes of far, numbers of the flow.
 #[derive(Clone, Copy)]
-pub struct Ask {
-    pub modules: usize,
-    pub pins: usize,
-    pub checker: bool,
+pub struct Room(pub usize, pub usize, pub usize);
+
+#[derive(Drop)]
+struct Lent {
+    near: Vec<u8>,
+    far: Vec<u8>,
+    flow: Vec<i32>,
 }
 
-// Is a side marked from a byte on?
-fn side_kept(side: &[u8], start: usize) -> bool {
-    for i in start..side.len() {
-        if side[i] != 0xA5 {
-            return false;
+// What the checker says of a flow with a side.
+fn check(book: &[u8], side: &[u8], flow: &[i32], price: usize) -> Answer<&'static str> {
+    match audit::check(book, side, flow, u32::try_from(price).unwrap_or(u32::MAX)) {
+        Checked::Accepted => Answer(Ok("accepted")),
+        Checked::Refused(why) => Answer(Err(why)),
+    }
+}
+
+impl Lent {
+    fn new(alloc: Global, room: Room) -> Result<Lent, AllocError> {
+        Ok(Lent {
+            near: vec![in alloc; BYTE; room.0]?,
+            far: vec![in alloc; BYTE; room.1]?,
+            flow: vec![in alloc; NUMBER; room.2]?,
+        })
+    }
+
+    // The call.
+    fn split(&mut self, book: &[u8]) -> Result<usize, Refusal> {
+        match split::split(book, &mut self.near, &mut self.far, &mut self.flow) {
+            Parted::Price(price) => Ok(price),
+            Parted::Refused(why) => Err(why),
         }
     }
-    true
-}
 
-// Is a flow marked from a number on?
-fn flow_kept(flow: &[i32], start: usize) -> bool {
-    for i in start..flow.len() {
-        if flow[i] != 77 {
-            return false;
+    // Are all marked beyond so many bytes of each side and numbers of the flow?
+    fn kept(&self, bytes: usize, pins: usize) -> bool {
+        trial::kept(&self.near, BYTE, bytes)
+            & trial::kept(&self.far, BYTE, bytes)
+            & trial::kept(&self.flow, NUMBER, pins)
+    }
+
+    // The sides of a book of so many modules, and the checker's answers on a small one.
+    fn print_sides(
+        &self,
+        rt: &impl Print,
+        book: &[u8],
+        modules: usize,
+        price: usize,
+    ) -> io::Result<()> {
+        print!(rt; " near{}", Modules::On(&self.near, modules))?;
+        if modules < LARGE {
+            print!(rt; " far{}", Modules::On(&self.far, modules))?;
+            print!(rt; " {}", check(book, &self.near, &self.flow, price))?;
+            print!(rt; " {}", check(book, &self.far, &self.flow, price))
+        } else {
+            print!(rt; " far{}", Modules::AllBut(&self.far, modules))
         }
     }
-    true
 }
 
-// Are all marked beyond so many bytes of a side and numbers of a flow?
-fn all_kept(near: &[u8], far: &[u8], flow: &[i32], bytes: usize, pins: usize) -> bool {
-    side_kept(near, bytes) & side_kept(far, bytes) & flow_kept(flow, pins)
+fn pin_count(card: &Card<'_>) -> usize {
+    card.nets
+        .iter()
+        .fold(0usize, |sum, net| sum.saturating_add(net.1.len()))
 }
 
-fn refused(
-    rt: &impl Print,
-    why: book::Refusal,
-    near: &[u8],
-    far: &[u8],
-    flow: &[i32],
-) -> io::Result<()> {
-    say::refused(rt, why)?;
-    if all_kept(near, far, flow, 0, 0) {
-        say::text(rt, b" nothing written\n")
-    } else {
-        say::text(rt, b" something written\n")
-    }
-}
-
-// What the checker says of the flow with each side.
-fn checked(
-    rt: &impl Print,
+// The split of a book that was made from a card.
+pub fn show(
+    rt: &(impl Print + AllocGlobal),
+    name: &str,
+    card: &Card<'_>,
     book: &[u8],
-    near: &[u8],
-    far: &[u8],
-    flow: &[i32],
-    price: usize,
+    room: Room,
 ) -> io::Result<()> {
-    let claim = (price % 4294967296) as u32;
-    say::checked(rt, audit::check(book, near, flow, claim))?;
-    say::checked(rt, audit::check(book, far, flow, claim))
-}
-
-// The price, the sides, the checker's answers where asked, and the tails.
-fn parted(
-    rt: &impl Print,
-    book: &[u8],
-    ask: Ask,
-    price: usize,
-    near: &[u8],
-    far: &[u8],
-    flow: &[i32],
-) -> io::Result<()>
-    requires { ask.modules < 4096 }
-{
-    say::text(rt, b" price ")?;
-    say::number(rt, price)?;
-    say::text(rt, b" near")?;
-    say::side(rt, near, ask.modules)?;
-    say::text(rt, b" far")?;
-    if ask.modules < 64 {
-        say::side(rt, far, ask.modules)?;
-    } else {
-        say::all_but(rt, far, ask.modules)?;
+    let modules = card.modules.len();
+    let mut lent = Lent::new(rt.alloc(), room)?;
+    print!(rt; "{name}:")?;
+    match lent.split(book) {
+        Ok(price) => {
+            print!(rt; " price {price}")?;
+            lent.print_sides(rt, book, modules, price)?;
+            let kept = lent.kept(modules.div_ceil(8), pin_count(card));
+            println!(rt; "{}", if kept { " tails kept" } else { " a tail lost" })
+        }
+        Err(why) => {
+            let written = if lent.kept(0, 0) {
+                "nothing"
+            } else {
+                "something"
+            };
+            println!(rt; " {} {written} written", Refused(why))
+        }
     }
-    if ask.checker {
-        checked(rt, book, near, far, flow, price)?;
-    }
-    if all_kept(near, far, flow, (ask.modules + 7) / 8, ask.pins) {
-        say::text(rt, b" tails kept\n")
-    } else {
-        say::text(rt, b" a tail lost\n")
-    }
-}
-
-// The call.
-fn split(
-    rt: &impl Print,
-    book: &[u8],
-    ask: Ask,
-    near: &mut [u8],
-    far: &mut [u8],
-    flow: &mut [i32],
-) -> io::Result<()>
-    requires { ask.modules < 4096 }
-{
-    match split::split(book, &mut *near, &mut *far, &mut *flow) {
-        Parted::Price(price) => parted(rt, book, ask, price, &*near, &*far, &*flow),
-        Parted::Refused(why) => refused(rt, why, &*near, &*far, &*flow),
-    }
-}
-
-// The same on the first `length` bytes.
-fn part(
-    rt: &impl Print,
-    book: &[u8],
-    length: usize,
-    ask: Ask,
-    near: &mut [u8],
-    far: &mut [u8],
-    flow: &mut [i32],
-) -> io::Result<()>
-    requires { ask.modules < 4096 }
-{
-    if length <= book.len() {
-        split(rt, &book[..length], ask, near, far, flow)?;
-    }
-    Ok(())
-}
-
-// The same on a book in a longer buffer.
-pub fn shown(
-    rt: &impl Print,
-    book: &[u8; 8000],
-    length: usize,
-    ask: Ask,
-    near: &mut [u8],
-    far: &mut [u8],
-    flow: &mut [i32],
-) -> io::Result<()>
-    requires { ask.modules < 4096 }
-{
-    part(rt, book, length, ask, near, far, flow)
-}
-
-// A card made from lists.
-pub fn card(
-    rt: &impl Print,
-    name: &[u8],
-    marks: &[u16],
-    nets: &[u16],
-    pins: &[u16],
-    checker: bool,
-    near: &mut [u8],
-    far: &mut [u8],
-    flow: &mut [i32],
-) -> io::Result<()> {
-    let mut book = [0u8; 8000];
-    let length = make::put_card(&mut book, marks, nets, pins);
-    let ask = Ask {
-        modules: make::short(marks.len()),
-        pins: pins.len(),
-        checker: checker,
-    };
-    say::text(rt, name)?;
-    say::text(rt, b":")?;
-    shown(rt, &book, length, ask, near, far, flow)
-}
-
-// Bridge with one number put over its own, cut to a length.
-pub fn bridge(
-    rt: &impl Print,
-    name: &[u8],
-    length: usize,
-    at: usize,
-    x: usize,
-    near: &mut [u8],
-    far: &mut [u8],
-    flow: &mut [i32],
-) -> io::Result<()> {
-    let mut book = make::bridge();
-    let ask = Ask {
-        modules: 4,
-        pins: 6,
-        checker: true,
-    };
-    make::put16(&mut book, at, x);
-    say::text(rt, name)?;
-    say::text(rt, b":")?;
-    shown(rt, &book, length, ask, near, far, flow)
 }

@@ -2,10 +2,8 @@
 #![tactic(auto)]
 
 mod lent;
-mod make;
 mod refusals;
 mod rows;
-mod say;
 mod sizes;
 mod ways;
 

@@ -1,227 +1,107 @@
 // The rows of the table on buffers and on refused books.
-use crate::lent;
+use crate::lent::{self, Room};
 use std::io;
+use trial::{BRIDGE, Card, FREE, MAKER, METER, Net, Put};
 
-// Bridge in these buffers.
-fn bridge(
-    rt: &impl Print,
-    name: &[u8],
-    near: &mut [u8],
-    far: &mut [u8],
-    flow: &mut [i32],
-) -> io::Result<()> {
-    lent::bridge(rt, name, 72, 65536, 0, near, far, flow)
-}
+// A card in buffers of these lengths.
+#[derive(Clone, Copy)]
+struct Buffers<'a>(&'a str, Card<'a>, Room);
 
-// 9 modules in these buffers; the sides need two bytes, the flow four numbers.
-fn nine(
-    rt: &impl Print,
-    name: &[u8],
-    near: &mut [u8],
-    far: &mut [u8],
-    flow: &mut [i32],
-) -> io::Result<()> {
-    lent::card(
-        rt,
-        name,
-        &[1, 0, 0, 0, 0, 0, 0, 0, 2],
-        &[2, 2, 1, 2],
-        &[0, 7, 7, 8],
-        true,
-        near,
-        far,
-        flow,
-    )
-}
+// Bridge with numbers put over its own, cut to a length.
+#[derive(Clone, Copy)]
+struct Edited<'a>(&'a str, usize, &'a [Put]);
 
-// No nets, in these buffers; the flow needs none.
-fn bare(
-    rt: &impl Print,
-    name: &[u8],
-    near: &mut [u8],
-    far: &mut [u8],
-    flow: &mut [i32],
-) -> io::Result<()> {
-    lent::card(rt, name, &[1, 0, 2], &[], &[], true, near, far, flow)
-}
+// The sides need two bytes, the flow four numbers.
+const NINE: Card<'static> = Card {
+    modules: &[METER, FREE, FREE, FREE, FREE, FREE, FREE, FREE, MAKER],
+    nets: &[Net(2, &[0, 7]), Net(1, &[7, 8])],
+};
 
-// Bridge with one number put over its own, cut to a length, in buffers that do.
-fn edited(rt: &impl Print, name: &[u8], length: usize, at: usize, x: usize) -> io::Result<()> {
-    let mut near = [0xA5u8; 2];
-    let mut far = [0xA5u8; 3];
-    let mut flow = [77i32; 8];
-    lent::bridge(rt, name, length, at, x, &mut near, &mut far, &mut flow)
-}
+// The flow needs no number.
+const BARE: Card<'static> = Card {
+    modules: &[METER, FREE, MAKER],
+    nets: &[],
+};
 
-// The same in empty buffers.
-fn edited_bare(rt: &impl Print, name: &[u8], length: usize, at: usize, x: usize) -> io::Result<()> {
-    lent::bridge(rt, name, length, at, x, &mut [], &mut [], &mut [])
-}
+const ONE: Card<'static> = Card {
+    modules: &[METER],
+    nets: &[],
+};
 
 // Buffers that do, and their tails.
-fn long(rt: &impl Print) -> io::Result<()> {
-    bridge(
-        rt,
-        b"Bridge, no tails",
-        &mut [0xA5; 1],
-        &mut [0xA5; 1],
-        &mut [77; 6],
-    )?;
-    bridge(
-        rt,
-        b"Bridge, a tail of near",
-        &mut [0xA5; 4],
-        &mut [0xA5; 1],
-        &mut [77; 6],
-    )?;
-    bridge(
-        rt,
-        b"Bridge, a tail of far",
-        &mut [0xA5; 1],
-        &mut [0xA5; 4],
-        &mut [77; 6],
-    )?;
-    bridge(
-        rt,
-        b"Bridge, a tail of flow",
-        &mut [0xA5; 1],
-        &mut [0xA5; 1],
-        &mut [77; 9],
-    )?;
-    nine(
-        rt,
-        b"9 modules, no tail",
-        &mut [0xA5; 2],
-        &mut [0xA5; 2],
-        &mut [77; 4],
-    )?;
-    bare(
-        rt,
-        b"no nets, an empty flow",
-        &mut [0xA5; 1],
-        &mut [0xA5; 1],
-        &mut [],
-    )?;
-    bare(
-        rt,
-        b"no nets, a tail of flow",
-        &mut [0xA5; 1],
-        &mut [0xA5; 1],
-        &mut [77; 3],
-    )
-}
+static LONG: [Buffers<'static>; 7] = [
+    Buffers("Bridge, no tails", BRIDGE, Room(1, 1, 6)),
+    Buffers("Bridge, a tail of near", BRIDGE, Room(4, 1, 6)),
+    Buffers("Bridge, a tail of far", BRIDGE, Room(1, 4, 6)),
+    Buffers("Bridge, a tail of flow", BRIDGE, Room(1, 1, 9)),
+    Buffers("9 modules, no tail", NINE, Room(2, 2, 4)),
+    Buffers("no nets, an empty flow", BARE, Room(1, 1, 0)),
+    Buffers("no nets, a tail of flow", BARE, Room(1, 1, 3)),
+];
 
 // Refusal 8.
-fn short(rt: &impl Print) -> io::Result<()> {
-    bridge(
-        rt,
-        b"Bridge, near empty",
-        &mut [],
-        &mut [0xA5; 1],
-        &mut [77; 6],
-    )?;
-    bridge(
-        rt,
-        b"Bridge, far empty",
-        &mut [0xA5; 1],
-        &mut [],
-        &mut [77; 6],
-    )?;
-    bridge(
-        rt,
-        b"Bridge, flow short by one",
-        &mut [0xA5; 1],
-        &mut [0xA5; 1],
-        &mut [77; 5],
-    )?;
-    bridge(
-        rt,
-        b"Bridge, flow empty",
-        &mut [0xA5; 1],
-        &mut [0xA5; 1],
-        &mut [],
-    )?;
-    bridge(rt, b"Bridge, all empty", &mut [], &mut [], &mut [])?;
-    bridge(
-        rt,
-        b"Bridge, near empty and tails",
-        &mut [],
-        &mut [0xA5; 4],
-        &mut [77; 9],
-    )?;
-    nine(
-        rt,
-        b"9 modules, near short by one",
-        &mut [0xA5; 1],
-        &mut [0xA5; 2],
-        &mut [77; 4],
-    )?;
-    nine(
-        rt,
-        b"9 modules, far short by one",
-        &mut [0xA5; 2],
-        &mut [0xA5; 1],
-        &mut [77; 4],
-    )?;
-    nine(
-        rt,
-        b"9 modules, flow short by one",
-        &mut [0xA5; 2],
-        &mut [0xA5; 2],
-        &mut [77; 3],
-    )?;
-    bare(rt, b"no nets, all empty", &mut [], &mut [], &mut [])
-}
+static SHORT: [Buffers<'static>; 10] = [
+    Buffers("Bridge, near empty", BRIDGE, Room(0, 1, 6)),
+    Buffers("Bridge, far empty", BRIDGE, Room(1, 0, 6)),
+    Buffers("Bridge, flow short by one", BRIDGE, Room(1, 1, 5)),
+    Buffers("Bridge, flow empty", BRIDGE, Room(1, 1, 0)),
+    Buffers("Bridge, all empty", BRIDGE, Room(0, 0, 0)),
+    Buffers("Bridge, near empty and tails", BRIDGE, Room(0, 4, 9)),
+    Buffers("9 modules, near short by one", NINE, Room(1, 2, 4)),
+    Buffers("9 modules, far short by one", NINE, Room(2, 1, 4)),
+    Buffers("9 modules, flow short by one", NINE, Room(2, 2, 3)),
+    Buffers("no nets, all empty", BARE, Room(0, 0, 0)),
+];
 
 // Refusals 1 to 6.
-fn books(rt: &impl Print) -> io::Result<()> {
-    edited(rt, b"Bridge cut short", 71, 65536, 0)?;
-    edited(rt, b"one byte after Bridge", 73, 65536, 0)?;
-    edited(rt, b"no bytes", 0, 65536, 0)?;
-    edited(rt, b"area 0 of module 2", 72, 40, 0)?;
-    edited(rt, b"mark 3 of module 1", 72, 38, 3)?;
-    edited(rt, b"weight 0 of net 1", 72, 52, 0)?;
-    edited(rt, b"pin counts one too few", 72, 58, 1)?;
-    edited(rt, b"pin 5 names module 4", 72, 70, 4)?;
-    edited(rt, b"pin 3 falls", 72, 66, 0)?;
-    edited(rt, b"no meter module", 72, 34, 0)?;
-    edited(rt, b"no maker module", 72, 46, 0)?;
-    lent::card(
-        rt,
-        b"1 module",
-        &[1],
-        &[],
-        &[],
-        true,
-        &mut [0xA5; 1],
-        &mut [0xA5; 1],
-        &mut [],
-    )
-}
+static BOOKS: [Edited<'static>; 11] = [
+    Edited("Bridge cut short", 71, &[]),
+    Edited("one byte after Bridge", 73, &[]),
+    Edited("no bytes", 0, &[]),
+    Edited("area 0 of module 2", 72, &[Put(40, 0)]),
+    Edited("mark 3 of module 1", 72, &[Put(38, 3)]),
+    Edited("weight 0 of net 1", 72, &[Put(52, 0)]),
+    Edited("pin counts one too few", 72, &[Put(58, 1)]),
+    Edited("pin 5 names module 4", 72, &[Put(70, 4)]),
+    Edited("pin 3 falls", 72, &[Put(66, 0)]),
+    Edited("no meter module", 72, &[Put(34, 0)]),
+    Edited("no maker module", 72, &[Put(46, 0)]),
+];
 
 // A book's refusal comes before that of the buffers.
-fn both(rt: &impl Print) -> io::Result<()> {
-    edited_bare(rt, b"Bridge cut short, all empty", 71, 65536, 0)?;
-    edited_bare(rt, b"area 0 of module 2, all empty", 72, 40, 0)?;
-    edited_bare(rt, b"weight 0 of net 1, all empty", 72, 52, 0)?;
-    edited_bare(rt, b"pin 5 names module 4, all empty", 72, 70, 4)?;
-    edited_bare(rt, b"no meter module, all empty", 72, 34, 0)?;
-    lent::card(
-        rt,
-        b"1 module, all empty",
-        &[1],
-        &[],
-        &[],
-        true,
-        &mut [],
-        &mut [],
-        &mut [],
-    )
+static BOTH: [Edited<'static>; 5] = [
+    Edited("Bridge cut short, all empty", 71, &[]),
+    Edited("area 0 of module 2, all empty", 72, &[Put(40, 0)]),
+    Edited("weight 0 of net 1, all empty", 72, &[Put(52, 0)]),
+    Edited("pin 5 names module 4, all empty", 72, &[Put(70, 4)]),
+    Edited("no meter module, all empty", 72, &[Put(34, 0)]),
+];
+
+fn show(rt: &(impl Print + AllocGlobal), row: &Buffers<'_>) -> io::Result<()> {
+    let Buffers(name, card, room) = *row;
+    let book = card.book(rt.alloc())?;
+    lent::show(rt, name, &card, &book, room)
 }
 
-pub fn run(rt: &impl Print) -> io::Result<()> {
-    long(rt)?;
-    short(rt)?;
-    books(rt)?;
-    both(rt)
+fn show_edited(rt: &(impl Print + AllocGlobal), row: &Edited<'_>, room: Room) -> io::Result<()> {
+    let Edited(name, size, puts) = *row;
+    let book = BRIDGE.edited(rt.alloc(), puts, size)?;
+    lent::show(rt, name, &BRIDGE, &book, room)
+}
+
+pub fn run(rt: &(impl Print + AllocGlobal)) -> io::Result<()> {
+    for row in &LONG {
+        show(rt, row)?;
+    }
+    for row in &SHORT {
+        show(rt, row)?;
+    }
+    for row in &BOOKS {
+        show_edited(rt, row, Room(2, 3, 8))?;
+    }
+    show(rt, &Buffers("1 module", ONE, Room(1, 1, 0)))?;
+    for row in &BOTH {
+        show_edited(rt, row, Room(0, 0, 0))?;
+    }
+    show(rt, &Buffers("1 module, all empty", ONE, Room(0, 0, 0)))
 }

@@ -1,204 +1,173 @@
 // The rows of the table on refused books.
-use crate::lent;
-use gate::Gate;
+use crate::lent::{self, Room};
+use gate::Gate::{self, Bounds, Open, Share};
 use std::io;
+use trial::{BRIDGE, Card, METER, Put};
 
-// Bridge with one number put over its own, cut to a length.
-fn edited(
-    rt: &impl Print,
-    name: &[u8],
-    length: usize,
-    at: usize,
-    x: usize,
+// Bridge with numbers put over its own, cut to a length.
+#[derive(Clone, Copy)]
+struct Edited<'a> {
+    name: &'a str,
+    size: usize,
+    puts: &'a [Put],
     gate: Gate,
-    side: &mut [u8],
-    rows: &mut [u8],
-) -> io::Result<()> {
-    lent::bridge(rt, name, length, at, x, gate, side, rows)
+    room: Room,
 }
 
 // Refusals 1 to 6.
-fn books(rt: &impl Print) -> io::Result<()> {
-    edited(
-        rt,
-        b"Bridge cut short",
-        71,
-        65536,
-        0,
-        Gate::Bounds {
+static BOOKS: [Edited<'static>; 7] = [
+    Edited {
+        name: "Bridge cut short",
+        size: 71,
+        puts: &[],
+        gate: Bounds {
             low: 5.0,
             high: 7.0,
         },
-        &mut [0xA5; 4],
-        &mut [0xA5; 40],
-    )?;
-    edited(
-        rt,
-        b"one byte after Bridge",
-        73,
-        65536,
-        0,
-        Gate::Bounds {
+        room: Room(4, 40),
+    },
+    Edited {
+        name: "one byte after Bridge",
+        size: 73,
+        puts: &[],
+        gate: Bounds {
             low: 5.0,
             high: 7.0,
         },
-        &mut [0xA5; 4],
-        &mut [0xA5; 40],
-    )?;
-    edited(
-        rt,
-        b"area 0 of module 2",
-        72,
-        40,
-        0,
-        Gate::Bounds {
+        room: Room(4, 40),
+    },
+    Edited {
+        name: "area 0 of module 2",
+        size: 72,
+        puts: &[Put(40, 0)],
+        gate: Bounds {
             low: 5.0,
             high: 7.0,
         },
-        &mut [0xA5; 4],
-        &mut [0xA5; 40],
-    )?;
-    edited(
-        rt,
-        b"weight 0 of net 1",
-        72,
-        52,
-        0,
-        Gate::Bounds {
+        room: Room(4, 40),
+    },
+    Edited {
+        name: "weight 0 of net 1",
+        size: 72,
+        puts: &[Put(52, 0)],
+        gate: Bounds {
             low: 5.0,
             high: 7.0,
         },
-        &mut [0xA5; 4],
-        &mut [0xA5; 40],
-    )?;
-    edited(
-        rt,
-        b"pin 5 names module 4",
-        72,
-        70,
-        4,
-        Gate::Bounds {
+        room: Room(4, 40),
+    },
+    Edited {
+        name: "pin 5 names module 4",
+        size: 72,
+        puts: &[Put(70, 4)],
+        gate: Bounds {
             low: 5.0,
             high: 7.0,
         },
-        &mut [0xA5; 4],
-        &mut [0xA5; 40],
-    )?;
-    edited(
-        rt,
-        b"no meter module",
-        72,
-        34,
-        0,
-        Gate::Open,
-        &mut [0xA5; 4],
-        &mut [0xA5; 40],
-    )?;
-    edited(
-        rt,
-        b"no maker module",
-        72,
-        46,
-        0,
-        Gate::Open,
-        &mut [0xA5; 4],
-        &mut [0xA5; 40],
-    )
-}
+        room: Room(4, 40),
+    },
+    Edited {
+        name: "no meter module",
+        size: 72,
+        puts: &[Put(34, 0)],
+        gate: Open,
+        room: Room(4, 40),
+    },
+    Edited {
+        name: "no maker module",
+        size: 72,
+        puts: &[Put(46, 0)],
+        gate: Open,
+        room: Room(4, 40),
+    },
+];
 
 // A book's refusal comes before that of the gate and that of the buffers.
-fn book_first(rt: &impl Print) -> io::Result<()> {
-    edited(
-        rt,
-        b"Bridge cut short, low above high",
-        71,
-        65536,
-        0,
-        Gate::Bounds {
+static BOOK_FIRST: [Edited<'static>; 6] = [
+    Edited {
+        name: "Bridge cut short, low above high",
+        size: 71,
+        puts: &[],
+        gate: Bounds {
             low: 7.0,
             high: 5.0,
         },
-        &mut [0xA5; 4],
-        &mut [0xA5; 40],
-    )?;
-    edited(
-        rt,
-        b"mark 3 of module 1, low above high",
-        72,
-        38,
-        3,
-        Gate::Bounds {
+        room: Room(4, 40),
+    },
+    Edited {
+        name: "mark 3 of module 1, low above high",
+        size: 72,
+        puts: &[Put(38, 3)],
+        gate: Bounds {
             low: 7.0,
             high: 5.0,
         },
-        &mut [0xA5; 4],
-        &mut [0xA5; 40],
-    )?;
-    edited(
-        rt,
-        b"pin 3 falls, e 1",
-        72,
-        66,
-        0,
-        Gate::Share { r: 0.5, e: 1.0 },
-        &mut [0xA5; 4],
-        &mut [0xA5; 40],
-    )?;
-    edited(
-        rt,
-        b"no meter module, low above high",
-        72,
-        34,
-        0,
-        Gate::Bounds {
+        room: Room(4, 40),
+    },
+    Edited {
+        name: "pin 3 falls, e 1",
+        size: 72,
+        puts: &[Put(66, 0)],
+        gate: Share { r: 0.5, e: 1.0 },
+        room: Room(4, 40),
+    },
+    Edited {
+        name: "no meter module, low above high",
+        size: 72,
+        puts: &[Put(34, 0)],
+        gate: Bounds {
             low: 7.0,
             high: 5.0,
         },
-        &mut [0xA5; 4],
-        &mut [0xA5; 40],
-    )?;
-    edited(
-        rt,
-        b"Bridge cut short, both empty",
-        71,
-        65536,
-        0,
-        Gate::Bounds {
+        room: Room(4, 40),
+    },
+    Edited {
+        name: "Bridge cut short, both empty",
+        size: 71,
+        puts: &[],
+        gate: Bounds {
             low: 5.0,
             high: 7.0,
         },
-        &mut [],
-        &mut [],
-    )?;
-    edited(
-        rt,
-        b"no maker module, low above high, both empty",
-        72,
-        46,
-        0,
-        Gate::Bounds {
+        room: Room(0, 0),
+    },
+    Edited {
+        name: "no maker module, low above high, both empty",
+        size: 72,
+        puts: &[Put(46, 0)],
+        gate: Bounds {
             low: 7.0,
             high: 5.0,
         },
-        &mut [],
-        &mut [],
-    )?;
-    lent::card(
-        rt,
-        b"1 module",
-        &[1, 1],
-        &[],
-        &[],
-        Gate::Bounds {
-            low: 7.0,
-            high: 5.0,
-        },
-        &mut [],
-        &mut [],
-    )
+        room: Room(0, 0),
+    },
+];
+
+fn show_all(rt: &(impl Print + AllocGlobal), rows: &[Edited<'_>]) -> io::Result<()> {
+    for row in rows {
+        let book = BRIDGE.edited(rt.alloc(), row.puts, row.size)?;
+        lent::show(rt, row.name, &BRIDGE, &book, row.gate, row.room)?;
+    }
+    Ok(())
 }
 
-pub fn run(rt: &impl Print) -> io::Result<()> {
-    books(rt)?;
-    book_first(rt)
+pub fn run(rt: &(impl Print + AllocGlobal)) -> io::Result<()> {
+    show_all(rt, &BOOKS)?;
+    show_all(rt, &BOOK_FIRST)?;
+    let one = Card {
+        modules: &[METER],
+        nets: &[],
+    };
+    let gate = Bounds {
+        low: 7.0,
+        high: 5.0,
+    };
+    lent::show(
+        rt,
+        "1 module",
+        &one,
+        &one.book(rt.alloc())?,
+        gate,
+        Room(0, 0),
+    )
 }

@@ -4,11 +4,10 @@
 mod books;
 mod gates;
 mod lent;
-mod make;
 mod refusals;
+mod round;
 mod rounds;
 mod rows;
-mod say;
 
 use std::io;
 

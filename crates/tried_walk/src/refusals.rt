@@ -1,240 +1,215 @@
 // The rows of the table on buffers.
-use crate::lent;
-use gate::Gate;
+use crate::lent::{self, Room};
+use gate::Gate::{self, Bounds, Open, Share};
 use std::io;
+use trial::Mark::{Maker, Meter};
+use trial::{BRIDGE, Card, FREE, MAKER, METER, Module, Net};
 
-// Bridge in these buffers; the rows need 36 bytes.
-fn bridge(
-    rt: &impl Print,
-    name: &[u8],
+// A card in buffers of these lengths. Bridge's rows need 36 bytes.
+#[derive(Clone, Copy)]
+struct Buffers<'a> {
+    name: &'a str,
+    card: Card<'a>,
     gate: Gate,
-    side: &mut [u8],
-    rows: &mut [u8],
-) -> io::Result<()> {
-    lent::bridge(rt, name, 72, 65536, 0, gate, side, rows)
+    room: Room,
 }
 
-// 9 modules in these buffers; the side needs two bytes, the rows 60.
-fn nine(
-    rt: &impl Print,
-    name: &[u8],
-    gate: Gate,
-    side: &mut [u8],
-    rows: &mut [u8],
-) -> io::Result<()> {
-    lent::card(
-        rt,
-        name,
-        &[1, 1, 1, 1, 1, 0, 1, 0, 1, 2, 1, 2, 1, 0, 1, 2, 1, 0],
-        &[2, 2, 1, 3],
-        &[0, 2, 2, 6, 7],
-        gate,
-        side,
-        rows,
-    )
-}
+// The side needs two bytes, the rows 60.
+const NINE: Card<'static> = Card {
+    modules: &[METER, METER, FREE, FREE, MAKER, MAKER, FREE, MAKER, FREE],
+    nets: &[Net(2, &[0, 2]), Net(1, &[2, 6, 7])],
+};
 
-// No free module, in these buffers; the rows need 12 bytes.
-fn two(
-    rt: &impl Print,
-    name: &[u8],
-    gate: Gate,
-    side: &mut [u8],
-    rows: &mut [u8],
-) -> io::Result<()> {
-    lent::card(rt, name, &[3, 1, 4, 2], &[7, 2], &[0, 1], gate, side, rows)
-}
+// No free module; the rows need 12 bytes.
+const TWO: Card<'static> = Card {
+    modules: &[Module(3, Meter), Module(4, Maker)],
+    nets: &[Net(7, &[0, 1])],
+};
 
 // Buffers that do, and their tails.
-fn long(rt: &impl Print) -> io::Result<()> {
-    bridge(
-        rt,
-        b"Bridge, no tails",
-        Gate::Bounds {
+static LONG: [Buffers<'static>; 8] = [
+    Buffers {
+        name: "Bridge, no tails",
+        card: BRIDGE,
+        gate: Bounds {
             low: 3.0,
             high: 4.0,
         },
-        &mut [0xA5; 1],
-        &mut [0xA5; 36],
-    )?;
-    bridge(
-        rt,
-        b"Bridge, no tails, 14",
-        Gate::Bounds {
+        room: Room(1, 36),
+    },
+    Buffers {
+        name: "Bridge, no tails, 14",
+        card: BRIDGE,
+        gate: Bounds {
             low: 4.0,
             high: 4.0,
         },
-        &mut [0xA5; 1],
-        &mut [0xA5; 36],
-    )?;
-    bridge(
-        rt,
-        b"Bridge, a tail of rows",
-        Gate::Bounds {
+        room: Room(1, 36),
+    },
+    Buffers {
+        name: "Bridge, a tail of rows",
+        card: BRIDGE,
+        gate: Bounds {
             low: 3.0,
             high: 4.0,
         },
-        &mut [0xA5; 1],
-        &mut [0xA5; 37],
-    )?;
-    bridge(
-        rt,
-        b"Bridge, a tail of the side",
-        Gate::Bounds {
+        room: Room(1, 37),
+    },
+    Buffers {
+        name: "Bridge, a tail of the side",
+        card: BRIDGE,
+        gate: Bounds {
             low: 3.0,
             high: 4.0,
         },
-        &mut [0xA5; 2],
-        &mut [0xA5; 36],
-    )?;
-    bridge(
-        rt,
-        b"Bridge, open, no tails",
-        Gate::Open,
-        &mut [0xA5; 1],
-        &mut [0xA5; 36],
-    )?;
-    nine(
-        rt,
-        b"9 modules, no tails",
-        Gate::Bounds {
+        room: Room(2, 36),
+    },
+    Buffers {
+        name: "Bridge, open, no tails",
+        card: BRIDGE,
+        gate: Open,
+        room: Room(1, 36),
+    },
+    Buffers {
+        name: "9 modules, no tails",
+        card: NINE,
+        gate: Bounds {
             low: 5.0,
             high: 5.0,
         },
-        &mut [0xA5; 2],
-        &mut [0xA5; 60],
-    )?;
-    two(
-        rt,
-        b"none free, rows of 12 bytes",
-        Gate::Bounds {
+        room: Room(2, 60),
+    },
+    Buffers {
+        name: "none free, rows of 12 bytes",
+        card: TWO,
+        gate: Bounds {
             low: 3.0,
             high: 3.0,
         },
-        &mut [0xA5; 1],
-        &mut [0xA5; 12],
-    )?;
-    two(
-        rt,
-        b"none free, 14, rows of 12 bytes",
-        Gate::Bounds {
+        room: Room(1, 12),
+    },
+    Buffers {
+        name: "none free, 14, rows of 12 bytes",
+        card: TWO,
+        gate: Bounds {
             low: 4.0,
             high: 4.0,
         },
-        &mut [0xA5; 1],
-        &mut [0xA5; 12],
-    )
-}
+        room: Room(1, 12),
+    },
+];
 
 // Refusal 8.
-fn short(rt: &impl Print) -> io::Result<()> {
-    bridge(
-        rt,
-        b"Bridge, rows short by one",
-        Gate::Bounds {
+static SHORT: [Buffers<'static>; 9] = [
+    Buffers {
+        name: "Bridge, rows short by one",
+        card: BRIDGE,
+        gate: Bounds {
             low: 3.0,
             high: 4.0,
         },
-        &mut [0xA5; 1],
-        &mut [0xA5; 35],
-    )?;
-    bridge(
-        rt,
-        b"Bridge, open, rows short by one",
-        Gate::Open,
-        &mut [0xA5; 1],
-        &mut [0xA5; 35],
-    )?;
-    bridge(
-        rt,
-        b"Bridge, open, room for one row",
-        Gate::Open,
-        &mut [0xA5; 1],
-        &mut [0xA5; 12],
-    )?;
-    bridge(
-        rt,
-        b"Bridge, rows empty",
-        Gate::Bounds {
+        room: Room(1, 35),
+    },
+    Buffers {
+        name: "Bridge, open, rows short by one",
+        card: BRIDGE,
+        gate: Open,
+        room: Room(1, 35),
+    },
+    Buffers {
+        name: "Bridge, open, room for one row",
+        card: BRIDGE,
+        gate: Open,
+        room: Room(1, 12),
+    },
+    Buffers {
+        name: "Bridge, rows empty",
+        card: BRIDGE,
+        gate: Bounds {
             low: 3.0,
             high: 4.0,
         },
-        &mut [0xA5; 1],
-        &mut [],
-    )?;
-    bridge(
-        rt,
-        b"Bridge, side empty",
-        Gate::Bounds {
+        room: Room(1, 0),
+    },
+    Buffers {
+        name: "Bridge, side empty",
+        card: BRIDGE,
+        gate: Bounds {
             low: 3.0,
             high: 4.0,
         },
-        &mut [],
-        &mut [0xA5; 36],
-    )?;
-    bridge(rt, b"Bridge, both empty", Gate::Open, &mut [], &mut [])?;
-    nine(
-        rt,
-        b"9 modules, side short by one",
-        Gate::Bounds {
+        room: Room(0, 36),
+    },
+    Buffers {
+        name: "Bridge, both empty",
+        card: BRIDGE,
+        gate: Open,
+        room: Room(0, 0),
+    },
+    Buffers {
+        name: "9 modules, side short by one",
+        card: NINE,
+        gate: Bounds {
             low: 5.0,
             high: 5.0,
         },
-        &mut [0xA5; 1],
-        &mut [0xA5; 60],
-    )?;
-    nine(
-        rt,
-        b"9 modules, rows short by one",
-        Gate::Bounds {
+        room: Room(1, 60),
+    },
+    Buffers {
+        name: "9 modules, rows short by one",
+        card: NINE,
+        gate: Bounds {
             low: 5.0,
             high: 5.0,
         },
-        &mut [0xA5; 2],
-        &mut [0xA5; 59],
-    )?;
-    two(
-        rt,
-        b"none free, rows of 11 bytes",
-        Gate::Open,
-        &mut [0xA5; 1],
-        &mut [0xA5; 11],
-    )
-}
+        room: Room(2, 59),
+    },
+    Buffers {
+        name: "none free, rows of 11 bytes",
+        card: TWO,
+        gate: Open,
+        room: Room(1, 11),
+    },
+];
 
 // A bad gate comes before short buffers.
-fn gate_first(rt: &impl Print) -> io::Result<()> {
-    bridge(
-        rt,
-        b"Bridge, low above high, rows short by one",
-        Gate::Bounds {
+static GATE_FIRST: [Buffers<'static>; 3] = [
+    Buffers {
+        name: "Bridge, low above high, rows short by one",
+        card: BRIDGE,
+        gate: Bounds {
             low: 7.0,
             high: 5.0,
         },
-        &mut [0xA5; 1],
-        &mut [0xA5; 35],
-    )?;
-    bridge(
-        rt,
-        b"Bridge, low above high, side empty",
-        Gate::Bounds {
+        room: Room(1, 35),
+    },
+    Buffers {
+        name: "Bridge, low above high, side empty",
+        card: BRIDGE,
+        gate: Bounds {
             low: 7.0,
             high: 5.0,
         },
-        &mut [],
-        &mut [0xA5; 36],
-    )?;
-    bridge(
-        rt,
-        b"Bridge, r 1, both empty",
-        Gate::Share { r: 1.0, e: 0.25 },
-        &mut [],
-        &mut [],
-    )
+        room: Room(0, 36),
+    },
+    Buffers {
+        name: "Bridge, r 1, both empty",
+        card: BRIDGE,
+        gate: Share { r: 1.0, e: 0.25 },
+        room: Room(0, 0),
+    },
+];
+
+fn show_all(rt: &(impl Print + AllocGlobal), rows: &[Buffers<'_>]) -> io::Result<()> {
+    for row in rows {
+        let book = row.card.book(rt.alloc())?;
+        lent::show(rt, row.name, &row.card, &book, row.gate, row.room)?;
+    }
+    Ok(())
 }
 
-pub fn run(rt: &impl Print) -> io::Result<()> {
-    long(rt)?;
-    short(rt)?;
-    gate_first(rt)
+pub fn run(rt: &(impl Print + AllocGlobal)) -> io::Result<()> {
+    show_all(rt, &LONG)?;
+    show_all(rt, &SHORT)?;
+    show_all(rt, &GATE_FIRST)
 }
