@@ -4,6 +4,8 @@
 mod card;
 mod lent;
 mod said;
+#[cfg(test)]
+mod tests;
 
 pub use card::{BRIDGE, Card, Draft, FREE, MAKER, METER, Mark, Module, Net, Put};
 pub use lent::kept;

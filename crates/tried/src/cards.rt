@@ -1,4 +1,4 @@
-// The cards of the table beside Bridge.
+// The cards of the table beside Bridge. A constant cannot cite a part of another, so those that differ little from it stand whole.
 use trial::Mark::{Free, Maker, Meter};
 use trial::{Card, FREE, MAKER, METER, Module, Net};
 

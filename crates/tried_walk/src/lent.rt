@@ -4,7 +4,7 @@ use gate::Gate;
 use std::alloc::{AllocError, Global};
 use std::io;
 use trial::{Card, Modules, Refused};
-use walk::NotDone;
+use walk::{Done, NotDone};
 
 // What the buffers are marked with.
 const BYTE: u8 = 0xA5;
@@ -57,16 +57,14 @@ pub fn show(
     let mut lent = Lent::new(rt.alloc(), room)?;
     print!(rt; "{name}:")?;
     match walk::walk(book, gate, &mut lent.side, &mut lent.rows) {
-        Ok(done) => {
+        Ok(Done { price, rounds }) => {
             print!(rt;
-                " price {} rounds {} side{}",
-                done.price,
-                done.rounds,
+                " price {price} rounds {rounds} side{}",
                 Modules::On(&lent.side, modules)
             )?;
-            let kept = lent.kept(modules.div_ceil(8), done.rounds);
+            let kept = lent.kept(modules.div_ceil(8), rounds);
             println!(rt; "{}", if kept { " tails kept" } else { " a tail lost" })?;
-            lent.print_rows(rt, done.rounds)
+            lent.print_rows(rt, rounds)
         }
         Err(NotDone::Stuck(rounds)) => {
             let side = if lent.kept(0, rounds) {

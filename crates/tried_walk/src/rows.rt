@@ -12,7 +12,7 @@ pub struct Row<'a> {
     pub gate: Gate,
 }
 
-// Bridge with all weights 1.
+// Bridge with all weights 1; whole, since a constant cannot cite a part of another.
 pub const CHAIN: Card<'static> = Card {
     modules: &[
         Module(3, Meter),
