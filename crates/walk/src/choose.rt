@@ -1,4 +1,6 @@
 // The module that a round takes, and the marks after it.
+#![tactic(auto, using(crate::proofs::Marks::free_more, crate::proofs::Marks::none_free))]
+
 ghost use Rattle.std.specs.Prelude.{◌≡◌, ◌+◌, ◌/◌, ◌<◌, ◌≤◌, length};
 ghost use Rattle.line.specs.Card.{either};
 ghost use Rattle.line.specs.Flow.{only};

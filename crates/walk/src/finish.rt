@@ -1,4 +1,6 @@
 // What the call answers and writes once the walk has ended.
+#![tactic(auto, using(split::proofs::Loads::few_modules, crate::proofs::Ended::area_none, crate::proofs::Ended::area_more, crate::proofs::Ended::side_over))]
+
 ghost use Rattle.std.specs.Prelude.{◌≡◌, ◌≤◌, length};
 ghost use Rattle.line.specs.Card.{whole_area};
 ghost use Rattle.book.specs.Format.{modules, area};

@@ -1,5 +1,5 @@
 // The balancing walk.
-#![tactic(auto, using(split::proofs::Loads::sound_netlist, split::proofs::Loads::few_modules, split::proofs::Loads::few_pins))]
+#![tactic(auto, using(split::proofs::Loads::few_modules, split::proofs::Loads::few_pins, crate::proofs::Whole::long_enough))]
 
 ghost use Rattle.std.specs.Prelude.{◌≡◌, ◌≤◌, length};
 ghost use Rattle.book.specs.Format.{modules};

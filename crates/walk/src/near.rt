@@ -15,7 +15,7 @@ use book::Book;
 use flow::board::Board;
 use split::numbers::Numbers;
 
-// From any fair flow, in lent work.
+// From any fair flow, in lent work, which stays slices: a struct of `&mut` fields owes a clause on each field's ghost name at each call.
 fn near_in(
     board: &Board<'_>,
     queue: &mut [u16],

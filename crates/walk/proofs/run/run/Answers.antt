@@ -7,7 +7,6 @@ use native.Mathlib.Omega.{arith}
 use Rattle.book.specs.Format.{pins}
 use Rattle.split.proofs.Loads.{few_pins}
 use Rattle.walk.specs.Call.{room_for}
-use Rattle.walk.specs.Runs.{Ran}
 use Rattle.walk.proofs.run.run.Goals as goal
 
 pub slice_bounds-run_on-end : goal.slice_bounds-run_on-end
@@ -17,6 +16,3 @@ pub run_on-requires : goal.run_on-requires
 run_on-requires c =
     let e = sym c.of-numbers.ensures in
     (length-take-le _ _ (omega (arith, c.pins-p.ensures, few_pins c.args.netlist)) ∙ c.pins-p.ensures ∙ ap (λ (b : Bor (List ℕ)). pins b.now) e, subst (λ (b : Bor (List ℕ)). room_for b.now ≤ length c.args.rows.now) e c.requires)
-
-pub returns : goal.returns
-returns c = subst (λ (b : Bor (List ℕ)). Ran b.now c.args.band c.args.rows.now c.run_on.new.rows c.run_on.result) c.of-numbers.ensures c.run_on.ensures
