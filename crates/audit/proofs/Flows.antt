@@ -2,15 +2,12 @@
 use Rattle.std.specs.Prelude.{◌≡◌, List, ℕ, ℤ, true, false, Err}
 use Rattle.book.specs.declared.Refusal.TheVariants.{Buffer, Side}
 use Rattle.book.specs.Sound.{Sound}
-use Rattle.book.proofs.Netlists.{sound_of}
+pub use Rattle.book.proofs.Netlists.{sound_netlist}
 use Rattle.book.specs.declared.netlist.Netlist.{Netlist}
 use Rattle.audit.specs.declared.Flowed.{Flowed}
 use Rattle.audit.specs.Rules.{LentFlow}
 use Rattle.side.specs.Given.{is_short, is_good}
 use Rattle.audit.specs.Checker.{is_short_flow, checked_good, checked_sound}
-
-pub sound_netlist : (n : Netlist) → Sound n.bytes.now
-sound_netlist n = sound_of _ n.reads
 
 pub lent_flow : (f : Flowed) → LentFlow f.netlist.bytes.now f.flow.now
 lent_flow f = record { sound = sound_netlist f.netlist; enough = f.enough }

@@ -34,7 +34,7 @@ found : (f : Option ℕ) → is_nothing f ≡ false → (i : ℕ) × (f ≡ Some
 found (Some i) e = (i, refl)
 found None e = absurd (true≢false e)
 
-has : (s : List ℕ) (k : ℕ) → lacks s k ≡ false → (m : ℕ) × (m < modules s) × (mark s m ≡ k)
+pub has : (s : List ℕ) (k : ℕ) → lacks s k ≡ false → (m : ℕ) × (m < modules s) × (mark s m ≡ k)
 unfolding lacks
 has s k e =
     let f = found _ e in

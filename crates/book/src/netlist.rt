@@ -1,10 +1,11 @@
-// A book that reads, with its numbers. That it reads stands in the type, so that no call asks it again.
-#![tactic(auto, using(crate::proofs::Netlists::laid_of))]
+// A book that reads, with its numbers. What the checks found stands in the type, so that no call asks it again.
+#![tactic(auto, using(crate::proofs::Netlists::laid_netlist))]
 
-ghost use Rattle.std.specs.Prelude.{◌≡◌, ◌<◌, is_ok, true, IfOk, Err, IfErr};
+ghost use Rattle.std.specs.Prelude.{◌≡◌, ◌<◌, is_ok, IfOk, Err, IfErr};
 ghost use Rattle.book.specs.Format.{modules, nets, pins, area, mark, weight, pin_count, pin};
 ghost use Rattle.book.specs.Checks.{read_of};
 ghost use Rattle.book.specs.Marks.{number_of};
+ghost use Rattle.book.specs.Sound.{Sound};
 
 use crate::Refusal;
 use crate::layout::Layout;
@@ -13,7 +14,7 @@ use crate::mark::Mark;
 #[derive(Clone, Copy)]
 pub struct Netlist<'a> {
     pub bytes: &'a [u8],
-    ghost reads: { is_ok (read_of bytes.now) ≡ true },
+    ghost sound: { ∥ Sound bytes.now ∥₁ },
 }
 
 impl<'a> Netlist<'a> {

@@ -2,15 +2,13 @@
 use Rattle.std.specs.Prelude.{◌≡◌, true, false, List, ℕ, is_ok, Ok, Err}
 use Rattle.book.specs.Checks.{read_of}
 use Rattle.book.specs.Sound.{Sound}
-use Rattle.book.proofs.Netlists.{sound_of, reads_as}
+pub use Rattle.book.proofs.Netlists.{sound_netlist}
+use Rattle.book.proofs.Netlists.{reads_as}
 use Rattle.book.specs.declared.Refusal.{Refusal}
 use Rattle.book.specs.declared.Refusal.TheVariants.{Buffer, Side}
 use Rattle.book.specs.declared.netlist.Netlist.{Netlist}
 use Rattle.side.specs.declared.Sided.{Sided}
 use Rattle.side.specs.Given.{Lent, is_short, is_good, given, given_sound}
-
-pub sound_netlist : (n : Netlist) → Sound n.bytes.now
-sound_netlist n = sound_of _ n.reads
 
 pub lent : (s : Sided) → Lent s.netlist.bytes.now s.bits.now
 lent s = record { sound = sound_netlist s.netlist; enough = s.enough }

@@ -6,11 +6,8 @@ use Rattle.book.specs.Format.{modules, nets, pins, first_pin}
 use Rattle.book.specs.Checks.{most_modules, most_nets, most_pins}
 use Rattle.book.specs.Sound.{Sound}
 use Rattle.book.specs.declared.netlist.Netlist.{Netlist}
-use Rattle.book.proofs.Netlists.{sound_of}
+pub use Rattle.book.proofs.Netlists.{sound_netlist}
 use Rattle.book.proofs.CardLaws.{first_pin_mono}
-
-pub sound_netlist : (n : Netlist) → Sound n.bytes.now
-sound_netlist n = sound_of _ n.reads
 
 pub few_modules : (n : Netlist) → modules n.bytes.now ≤ most_modules
 few_modules n = (sound_netlist n).few_modules
