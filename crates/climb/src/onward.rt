@@ -122,18 +122,8 @@ fn widest(
     let mut best: Option<u64> = None;
     let mut most: u32 = 0;
     for i in usize::from(board.at[u])..usize::from(board.at[u + 1]) {
-        let step = leave_by(
-            board,
-            sums,
-            flow,
-            how,
-            seen,
-            guide,
-            u,
-            board.pins[i],
-            d,
-            rank,
-        );
+        let a = board.pins[i];
+        let step = leave_by(board, sums, flow, how, seen, guide, u, a, d, rank);
         if let Some(x) = step {
             let room = flow::push::step_room(board.weight, board.nets, sums, flow, x);
             if room > most {
@@ -169,18 +159,8 @@ pub fn onward(
     let lo = usize::from(board.at[u]);
     let next = lo + usize::from(guide.own[u]);
     for i in next..usize::from(board.at[u + 1]) {
-        let step = leave_by(
-            board,
-            sums,
-            flow,
-            how,
-            seen,
-            &*guide,
-            u,
-            board.pins[i],
-            d,
-            rank,
-        );
+        let a = board.pins[i];
+        let step = leave_by(board, sums, flow, how, seen, &*guide, u, a, d, rank);
         if step.is_some() {
             guide.own[u] = (i - lo) as u16;
             return step;
