@@ -6,12 +6,16 @@ use Rattle.line.specs.Flow.{only}
 use Rattle.book.specs.First.{or_else, lowest}
 use Rattle.book.specs.Cards.{net_of, nets_of, pins_of}
 use Rattle.side.specs.Sides.{side_of}
+use Rattle.walk.specs.declared.choose.Half.{Half}
 use Rattle.walk.specs.Walk.{on_cut, free_in}
 
 -- The modules inside X, or those outside it, as is asked.
 abbrev pub side_from : Bool → Side → Side
 side_from true x = x
 side_from false x = outside x
+
+abbrev pub half_of : Half → Side
+half_of h = side_from h.on (side_of h.x.now)
 
 -- The marks that the bytes are, one a module.
 abbrev pub marks_of : List ℕ → ℕ → ℕ

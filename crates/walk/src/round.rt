@@ -7,7 +7,7 @@ ghost use Rattle.walk.specs.Walk.{choice};
 ghost use Rattle.walk.specs.Parts.{marks_of, side_from};
 ghost use Rattle.walk.specs.Work.{Marked, taking_from, Pins, Stepped, OneRound};
 
-use crate::choose::Candidates;
+use crate::choose::{Candidates, Half};
 use crate::{Row, Turn, Way};
 use side::Sided;
 use split::numbers::Numbers;
@@ -21,8 +21,7 @@ fn seek(sided: Sided<'_>, marks: &[u8], on: bool) -> Option<usize>
     crate::cut::cut_row(sided, &mut cut);
     let from = Candidates {
         marks,
-        x: sided.bits,
-        on,
+        half: Half { x: sided.bits, on },
         cut: &cut,
     };
     from.choose()
@@ -36,7 +35,11 @@ fn take_one(sided: Sided<'_>, marks: &mut [u8], way: Way) -> Turn
     let meter = way.is_meter();
     match seek(sided, &*marks, !meter) {
         Some(m) => {
-            crate::choose::pin_side(&mut *marks, sided.bits, meter, m, way.number());
+            let half = Half {
+                x: sided.bits,
+                on: meter,
+            };
+            crate::choose::pin_half(&mut *marks, half, m, way.number());
             Turn::Takes(way, m as u16)
         }
         None => Turn::Ends,

@@ -21,5 +21,5 @@ returns-in-Some c =
     let x = side_of a.sided.bits.now in
     let e : choice (card_of a.sided.netlist.bytes.now) (marks_of a.marks.now) x (side_from (not c.is_meter-meter.result) x) ≡ Some c.in-Some.m = sym c.seek.ensures ∙ c.in-Some.is in (
       ap (taking a.way) (sym (rw c.is_meter-meter.ensures at e)),
-      takes_pins a.sided.netlist.bytes.now a.marks.now x c.requires a.way _ c.in-Some.m (rw (c.number.ensures, c.is_meter-meter.ensures) at c.pin_side.ensures),
+      takes_pins a.sided.netlist.bytes.now a.marks.now x c.requires a.way _ c.in-Some.m (rw (c.number.ensures, c.is_meter-meter.ensures) at c.pin_half.ensures),
     )

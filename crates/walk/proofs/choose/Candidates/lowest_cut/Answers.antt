@@ -4,12 +4,11 @@ use Rattle.std.proofs.lemmas.Iterator.{first_from_Range}
 use borrow.Author.Rules.{rules}
 use borrow.Author.Tests.{tests}
 use Rattle.book.proofs.Firsts.{lowest_by}
-use Rattle.side.specs.Sides.{side_of}
-use Rattle.walk.specs.Parts.{side_from, free_in_row}
+use Rattle.walk.specs.Parts.{half_of, free_in_row}
 use Rattle.walk.proofs.choose.Candidates.lowest_cut.Goals as goal
 
 pub returns : goal.returns
 returns c =
     let a = c.args.self.now in
-    let t = free_in_row a.marks.now (side_from a.on (side_of a.x.now)) a.cut.now in
+    let t = free_in_row a.marks.now (half_of a.half) a.cut.now in
     lowest_by t _ _ (first_from_Range _ _ _ _ (λ (m : ℕ). t m ≡ true) (λ (m : ℕ). t m ≡ false) c.find.ensures.ran (λ x q k. search (rules, tests)) (λ x q k. search (rules, tests)))
