@@ -6,6 +6,7 @@ use mathlib.Core.List.{List}
 use native.Mathlib.Omega.{arith}
 use lib.ListN.{length}
 use Rattle.book.specs.declared.Refusal.{Refusal}
+use Rattle.book.specs.Sound.{Sound}
 use Rattle.book.proofs.Sound.{sound}
 use Rattle.side.specs.Sides.{side_of}
 use Rattle.split.specs.Splits.{Buffers, Split}
@@ -19,6 +20,9 @@ module _ (s : List ℕ) (old new : Buffers) (r : Result ℕ Refusal) (k : Split 
   module _ (p : ℕ) (e : r ≡ Ok p) where
     told : Told s p old new
     told = split_tells s old new p (rw e at k)
+
+    pub split_sound : Sound s
+    split_sound = told.sound
 
     pub rows_split : Rows s new.near new.far
     rows_split =
