@@ -1,4 +1,4 @@
-// The engine at work on a card's slices. What it works in is its own.
+// The engine at work on a card's slices. What it works in is its own: arrays of the largest size, since nothing is allocated, lent by fronts as long as the card's lists.
 ghost use Rattle.std.specs.Prelude.{◌≡◌, ◌≤◌, length};
 ghost use Rattle.line.specs.Flow.{Fair};
 ghost use Rattle.flow.specs.Board.{board_card};
