@@ -4,6 +4,7 @@ ghost use Rattle.flow.specs.Board.{board_card};
 ghost use Rattle.flow.specs.Raise.{Steady};
 ghost use Rattle.climb.specs.Climb.{Guided, Empty, Sized};
 
+use crate::land::Land;
 use flow::board::Board;
 use reach::{Card, FAR, Flow, Guide, Rows};
 
@@ -12,7 +13,7 @@ const TRIES: usize = 65536;
 
 // Ways from the meter s, each as far down as it goes; a module with no step onward is tried no more.
 fn try_meter(
-    board: &Board<'_>,
+    land: &Land<'_>,
     s: usize,
     how: &mut [u64],
     seen: &mut [u16],
@@ -21,36 +22,36 @@ fn try_meter(
     sums: &mut [u32],
     flow: &mut [i32],
 )
-    requires { Guided board.now × Steady (board_card board.now) board.now.mods.now sums.old flow.old × Sized board.now.mark.now board.now.weight.now how.old seen.old × Empty how.old × (s < length board.now.mark.now) × (get_or board.now.mark.now s 0 ≡ 1) }
-    ensures { Steady (board_card board.now) board.now.mods.now sums.new flow.new × Empty how.new }
+    requires { Steady (board_card land.now.board) land.now.board.mods.now sums.old flow.old × Sized land.now.board.mark.now land.now.board.weight.now how.old seen.old × Empty how.old × (s < length land.now.board.mark.now) × (get_or land.now.board.mark.now s 0 ≡ 1) }
+    ensures { Steady (board_card land.now.board) land.now.board.mods.now sums.new flow.new × Empty how.new }
 {
     how[s] = flow::search::pack(1, 0, 0);
     let mut u = s;
     for _ in 0..TRIES {
-        let step = crate::onward::onward(board, &*sums, &*flow, &*how, &*seen, u, &mut *guide);
+        let step = crate::onward::onward(land, &*sums, &*flow, &*how, &*seen, u, &mut *guide);
         if let Some(x) = step {
-            rows.touch(board.nets, flow::push::left_pin(x));
-            u = crate::ways::enter(board, u, x, &mut *how, &mut *seen);
-            if board.mark[u] == 2 {
+            rows.touch(land.board.nets, flow::push::left_pin(x));
+            u = crate::ways::enter(&land.board, u, x, &mut *how, &mut *seen);
+            if land.board.mark[u] == 2 {
                 u = crate::ways::deliver(
-                    board, &*guide, u, &mut *how, &mut *seen, &mut *rows, &mut *sums, &mut *flow,
+                    land, &*guide, u, &mut *how, &mut *seen, &mut *rows, &mut *sums, &mut *flow,
                 );
             }
         } else {
             guide.far[u] = FAR;
-            if board.mark[u] == 1 {
+            if land.board.mark[u] == 1 {
                 break;
             }
-            u = crate::ways::leave(board, u, &mut *how, &mut *seen);
+            u = crate::ways::leave(&land.board, u, &mut *how, &mut *seen);
         }
     }
-    let end = crate::ways::back(board, u, None, &mut *how, &mut *seen);
+    let end = crate::ways::back(&land.board, u, None, &mut *how, &mut *seen);
     how[end] = 0;
 }
 
 // Ways from every meter that can reach a maker.
 fn try_all(
-    board: &Board<'_>,
+    land: &Land<'_>,
     how: &mut [u64],
     seen: &mut [u16],
     guide: &mut Guide,
@@ -58,13 +59,13 @@ fn try_all(
     sums: &mut [u32],
     flow: &mut [i32],
 )
-    requires { Guided board.now × Steady (board_card board.now) board.now.mods.now sums.old flow.old × Sized board.now.mark.now board.now.weight.now how.old seen.old × Empty how.old }
-    ensures { Steady (board_card board.now) board.now.mods.now sums.new flow.new × Empty how.new }
+    requires { Steady (board_card land.now.board) land.now.board.mods.now sums.old flow.old × Sized land.now.board.mark.now land.now.board.weight.now how.old seen.old × Empty how.old }
+    ensures { Steady (board_card land.now.board) land.now.board.mods.now sums.new flow.new × Empty how.new }
 {
-    for s in 0..board.mark.len() {
-        if (board.mark[s] == 1) & (guide.far[s] != FAR) {
+    for s in 0..land.board.mark.len() {
+        if (land.board.mark[s] == 1) & (guide.far[s] != FAR) {
             try_meter(
-                board,
+                land,
                 s,
                 &mut *how,
                 &mut *seen,
@@ -79,7 +80,7 @@ fn try_all(
 
 // Rounds of a look and of ways down to the makers, until no meter can reach a maker; a round a module at most.
 fn climb_on(
-    board: &Board<'_>,
+    land: &Land<'_>,
     how: &mut [u64],
     seen: &mut [u16],
     guide: &mut Guide,
@@ -87,15 +88,15 @@ fn climb_on(
     sums: &mut [u32],
     flow: &mut [i32],
 )
-    requires { Guided board.now × Steady (board_card board.now) board.now.mods.now sums.old flow.old × Sized board.now.mark.now board.now.weight.now how.old seen.old × Empty how.old }
-    ensures { Fair (board_card board.now) flow.new }
+    requires { Steady (board_card land.now.board) land.now.board.mods.now sums.old flow.old × Sized land.now.board.mark.now land.now.board.weight.now how.old seen.old × Empty how.old }
+    ensures { Fair (board_card land.now.board) flow.new }
 {
     let card = Card {
-        first: board.first,
-        mods: board.mods,
-        weight: board.weight,
+        first: land.board.first,
+        mods: land.board.mods,
+        weight: land.board.weight,
     };
-    for _ in 0..board.mark.len() {
+    for _ in 0..land.board.mark.len() {
         let now = Flow {
             card,
             sums: &*sums,
@@ -106,7 +107,7 @@ fn climb_on(
         }
         seen.fill(0);
         try_all(
-            board,
+            land,
             &mut *how,
             &mut *seen,
             &mut *guide,
@@ -138,5 +139,13 @@ pub fn climb(
     flow::engine::net_sums(board.first, &*flow, &mut *sums);
     how.fill(0);
     rows.begin(card, board.mark, &*sums);
-    climb_on(board, how, seen, &mut guide, &mut rows, sums, flow);
+    climb_on(
+        &Land { board: *board },
+        how,
+        seen,
+        &mut guide,
+        &mut rows,
+        sums,
+        flow,
+    );
 }

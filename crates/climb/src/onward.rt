@@ -3,8 +3,9 @@ ghost use Rattle.std.specs.Prelude.{◌≡◌, ◌≢◌, false, suc, ◌+◌, �
 ghost use Rattle.flow.specs.Search.{In, rank, left};
 ghost use Rattle.flow.specs.Push.{Trail, Level};
 ghost use Rattle.flow.specs.Kinds.{number_of};
-ghost use Rattle.climb.specs.Climb.{Guided, Entry, Onward, Instead};
+ghost use Rattle.climb.specs.Climb.{Entry, Onward, Instead};
 
+use crate::land::Land;
 use flow::board::Board;
 use flow::kind::Kind;
 use reach::Guide;
@@ -72,7 +73,7 @@ fn entry(board: &Board<'_>, flow: &[i32], how: &[u64], guide: &Guide, look: Look
 
 // The first step that leaves by pin a to the distance before d, as one number, if there is one. Only a net by which the distance d was found has one.
 fn leave_by(
-    board: &Board<'_>,
+    land: &Land<'_>,
     sums: &[u32],
     flow: &[i32],
     how: &[u64],
@@ -83,30 +84,30 @@ fn leave_by(
     d: u16,
     rank: usize,
 ) -> Option<u64>
-    requires { Guided board.now × (length sums.now ≡ length board.now.weight.now) × (length flow.now ≡ length board.now.mods.now) × (length how.now ≡ length board.now.mark.now) × (length seen.now ≡ length board.now.weight.now) × (a < length board.now.mods.now) × (get_or board.now.mods.now a 0 ≡ u) × (rank ≤ length board.now.mark.now) × (0 < rank) × (0 < d) }
-    ensures { IfSome result (λ x. Onward board.now.mods.now board.now.nets.now board.now.mark.now how.now seen.now u rank x) }
+    requires { (length sums.now ≡ length land.now.board.weight.now) × (length flow.now ≡ length land.now.board.mods.now) × (length how.now ≡ length land.now.board.mark.now) × (length seen.now ≡ length land.now.board.weight.now) × (a < length land.now.board.mods.now) × (get_or land.now.board.mods.now a 0 ≡ u) × (rank ≤ length land.now.board.mark.now) × (0 < rank) × (0 < d) }
+    ensures { IfSome result (λ x. Onward land.now.board.mods.now land.now.board.nets.now land.now.board.mark.now how.now seen.now u rank x) }
 {
     let p = usize::from(a);
-    let n = usize::from(board.nets[p]);
+    let n = usize::from(land.board.nets[p]);
     if (guide.whole[n] != d) & (guide.part[n] != d) {
         return None;
     }
-    let room = sums[n] < u32::from(board.weight[n]);
+    let room = sums[n] < u32::from(land.board.weight[n]);
     let look = Look {
-        lo: usize::from(board.first[n]),
-        hi: usize::from(board.first[n + 1]),
+        lo: usize::from(land.board.first[n]),
+        hi: usize::from(land.board.first[n + 1]),
         lower: d - 1,
         takes: flow[p] < 0,
         free: room & (seen[n] == 0),
         rank,
         a,
     };
-    entry(board, flow, how, guide, look)
+    entry(&land.board, flow, how, guide, look)
 }
 
 // Of the next steps from u, one that carries the most, if there is one.
 fn widest(
-    board: &Board<'_>,
+    land: &Land<'_>,
     sums: &[u32],
     flow: &[i32],
     how: &[u64],
@@ -116,16 +117,16 @@ fn widest(
     d: u16,
     rank: usize,
 ) -> Option<u64>
-    requires { Guided board.now × Level board.now.mods.now board.now.weight.now sums.now flow.now × (length how.now ≡ length board.now.mark.now) × (length seen.now ≡ length board.now.weight.now) × (u < length board.now.mark.now) × (rank ≤ length board.now.mark.now) × (0 < rank) × (0 < d) }
-    ensures { IfSome result (λ x. Onward board.now.mods.now board.now.nets.now board.now.mark.now how.now seen.now u rank x) }
+    requires { Level land.now.board.mods.now land.now.board.weight.now sums.now flow.now × (length how.now ≡ length land.now.board.mark.now) × (length seen.now ≡ length land.now.board.weight.now) × (u < length land.now.board.mark.now) × (rank ≤ length land.now.board.mark.now) × (0 < rank) × (0 < d) }
+    ensures { IfSome result (λ x. Onward land.now.board.mods.now land.now.board.nets.now land.now.board.mark.now how.now seen.now u rank x) }
 {
     let mut best: Option<u64> = None;
     let mut most: u32 = 0;
-    for i in usize::from(board.at[u])..usize::from(board.at[u + 1]) {
-        let a = board.pins[i];
-        let step = leave_by(board, sums, flow, how, seen, guide, u, a, d, rank);
+    for i in usize::from(land.board.at[u])..usize::from(land.board.at[u + 1]) {
+        let a = land.board.pins[i];
+        let step = leave_by(land, sums, flow, how, seen, guide, u, a, d, rank);
         if let Some(x) = step {
-            let room = flow::push::step_room(board.weight, board.nets, sums, flow, x);
+            let room = flow::push::step_room(land.board.weight, land.board.nets, sums, flow, x);
             if room > most {
                 best = step;
                 most = room;
@@ -137,7 +138,7 @@ fn widest(
 
 // The next step from u, from the pin on where the last look at u ended, if there is one. On a long way each push costs much, so there the widest step is sought.
 pub fn onward(
-    board: &Board<'_>,
+    land: &Land<'_>,
     sums: &[u32],
     flow: &[i32],
     how: &[u64],
@@ -145,22 +146,22 @@ pub fn onward(
     u: usize,
     guide: &mut Guide,
 ) -> Option<u64>
-    requires { Guided board.now × Level board.now.mods.now board.now.weight.now sums.now flow.now × (length how.now ≡ length board.now.mark.now) × (length seen.now ≡ length board.now.weight.now) × (u < length board.now.mark.now) }
-    ensures { IfSome result (λ x. Onward board.now.mods.now board.now.nets.now board.now.mark.now how.now seen.now u (suc (rank (get_or how.now u 0))) x) }
+    requires { Level land.now.board.mods.now land.now.board.weight.now sums.now flow.now × (length how.now ≡ length land.now.board.mark.now) × (length seen.now ≡ length land.now.board.weight.now) × (u < length land.now.board.mark.now) }
+    ensures { IfSome result (λ x. Onward land.now.board.mods.now land.now.board.nets.now land.now.board.mark.now how.now seen.now u (suc (rank (get_or how.now u 0))) x) }
 {
     let d = guide.far[u];
     let rank = rank_after(how[u]);
-    if (d == 0) | (rank > board.mark.len()) {
+    if (d == 0) | (rank > land.board.mark.len()) {
         return None;
     }
     if rank + usize::from(d) > LONG {
-        return widest(board, sums, flow, how, seen, &*guide, u, d, rank);
+        return widest(land, sums, flow, how, seen, &*guide, u, d, rank);
     }
-    let lo = usize::from(board.at[u]);
+    let lo = usize::from(land.board.at[u]);
     let next = lo + usize::from(guide.own[u]);
-    for i in next..usize::from(board.at[u + 1]) {
-        let a = board.pins[i];
-        let step = leave_by(board, sums, flow, how, seen, &*guide, u, a, d, rank);
+    for i in next..usize::from(land.board.at[u + 1]) {
+        let a = land.board.pins[i];
+        let step = leave_by(land, sums, flow, how, seen, &*guide, u, a, d, rank);
         if step.is_some() {
             guide.own[u] = (i - lo) as u16;
             return step;
@@ -183,7 +184,7 @@ fn only_to(board: &Board<'_>, how: &[u64], seen: &[u16], v: usize, x: u64) -> Op
 
 // A step to the module v, which is on the way, from the module before it, in place of the one that is there; none if the widest step leads elsewhere.
 pub fn instead(
-    board: &Board<'_>,
+    land: &Land<'_>,
     sums: &[u32],
     flow: &[i32],
     seen: &[u16],
@@ -191,19 +192,19 @@ pub fn instead(
     v: usize,
     how: &mut [u64],
 ) -> Option<u64>
-    requires { Guided board.now × Level board.now.mods.now board.now.weight.now sums.now flow.now × Trail board.now.mods.now board.now.nets.now board.now.mark.now how.old (length board.now.weight.now) × In how.old v × (get_or board.now.mark.now v 0 ≢ 1) × (0 < rank (get_or how.old v 0)) × (length seen.now ≡ length board.now.weight.now) }
+    requires { Level land.now.board.mods.now land.now.board.weight.now sums.now flow.now × Trail land.now.board.mods.now land.now.board.nets.now land.now.board.mark.now how.old (length land.now.board.weight.now) × In how.old v × (get_or land.now.board.mark.now v 0 ≢ 1) × (0 < rank (get_or how.old v 0)) × (length seen.now ≡ length land.now.board.weight.now) }
     ensures kept { how.new ≡ how.old }
-    ensures step { IfSome result (λ x. Instead board.now.mods.now board.now.nets.now board.now.mark.now how.old seen.now v x) }
+    ensures step { IfSome result (λ x. Instead land.now.board.mods.now land.now.board.nets.now land.now.board.mark.now how.old seen.now v x) }
 {
     let old = how[v];
-    let u = usize::from(board.mods[flow::push::left_pin(old)]);
+    let u = usize::from(land.board.mods[flow::push::left_pin(old)]);
     let d = guide.far[u];
     if d == 0 {
         return None;
     }
     let rank = rank_of(old);
     how[v] = 0;
-    let step = widest(board, sums, flow, &*how, seen, guide, u, d, rank);
+    let step = widest(land, sums, flow, &*how, seen, guide, u, d, rank);
     how[v] = old;
-    only_to(board, &*how, seen, v, step?)
+    only_to(&land.board, &*how, seen, v, step?)
 }

@@ -4,8 +4,9 @@ ghost use Rattle.flow.specs.Search.{In, rank, left, kind, entered};
 ghost use Rattle.flow.specs.Board.{board_card};
 ghost use Rattle.flow.specs.Push.{Level};
 ghost use Rattle.flow.specs.Raise.{Steady};
-ghost use Rattle.climb.specs.Climb.{Guided, Thread, Onward, Instead};
+ghost use Rattle.climb.specs.Climb.{Thread, Onward, Instead};
 
+use crate::land::Land;
 use flow::board::Board;
 use flow::kind::{Kind, step_kind};
 use flow::push::{Ways, push_from};
@@ -83,7 +84,7 @@ pub fn back(
 
 // Another step in place of the one to v, on the way to z, if the widest leads there; was it put?
 fn mend(
-    board: &Board<'_>,
+    land: &Land<'_>,
     guide: &Guide,
     sums: &[u32],
     flow: &[i32],
@@ -93,24 +94,24 @@ fn mend(
     seen: &mut [u16],
     rows: &mut Rows,
 ) -> bool
-    requires { Guided board.now × Level board.now.mods.now board.now.weight.now sums.now flow.now × Thread board.now.mods.now board.now.nets.now board.now.mark.now how.old seen.old (length board.now.weight.now) z × (length seen.old ≡ length board.now.weight.now) }
-    ensures { Thread board.now.mods.now board.now.nets.now board.now.mark.now how.new seen.new (length board.now.weight.now) z }
+    requires { Level land.now.board.mods.now land.now.board.weight.now sums.now flow.now × Thread land.now.board.mods.now land.now.board.nets.now land.now.board.mark.now how.old seen.old (length land.now.board.weight.now) z × (length seen.old ≡ length land.now.board.weight.now) }
+    ensures { Thread land.now.board.mods.now land.now.board.nets.now land.now.board.mark.now how.new seen.new (length land.now.board.weight.now) z }
 {
-    if v >= how.len() || how[v] == 0 || board.mark[v] == 1 {
+    if v >= how.len() || how[v] == 0 || land.board.mark[v] == 1 {
         return false;
     }
-    let step = crate::onward::instead(board, sums, flow, &*seen, guide, v, &mut *how);
+    let step = crate::onward::instead(land, sums, flow, &*seen, guide, v, &mut *how);
     let Some(x) = step else {
         return false;
     };
-    rows.touch(board.nets, flow::push::left_pin(x));
-    swap(board, z, v, x, &mut *how, &mut *seen);
+    rows.touch(land.board.nets, flow::push::left_pin(x));
+    swap(&land.board, z, v, x, &mut *how, &mut *seen);
     true
 }
 
 // At a maker z: pushes what the way can carry. A long way that carried something is mended where it is narrow; the result is where it could not be.
 fn carry(
-    board: &Board<'_>,
+    land: &Land<'_>,
     guide: &Guide,
     z: usize,
     how: &mut [u64],
@@ -119,14 +120,14 @@ fn carry(
     sums: &mut [u32],
     flow: &mut [i32],
 ) -> Option<usize>
-    requires { Guided board.now × Steady (board_card board.now) board.now.mods.now sums.old flow.old × Thread board.now.mods.now board.now.nets.now board.now.mark.now how.old seen.old (length board.now.weight.now) z × (get_or board.now.mark.now z 0 ≡ 2) × (length seen.old ≡ length board.now.weight.now) }
-    ensures { Steady (board_card board.now) board.now.mods.now sums.new flow.new × Thread board.now.mods.now board.now.nets.now board.now.mark.now how.new seen.new (length board.now.weight.now) z }
+    requires { Steady (board_card land.now.board) land.now.board.mods.now sums.old flow.old × Thread land.now.board.mods.now land.now.board.nets.now land.now.board.mark.now how.old seen.old (length land.now.board.weight.now) z × (get_or land.now.board.mark.now z 0 ≡ 2) × (length seen.old ≡ length land.now.board.weight.now) }
+    ensures { Steady (board_card land.now.board) land.now.board.mods.now sums.new flow.new × Thread land.now.board.mods.now land.now.board.nets.now land.now.board.mark.now how.new seen.new (length land.now.board.weight.now) z }
 {
     let ways = Ways {
-        mods: board.mods,
-        weight: board.weight,
-        nets: board.nets,
-        mark: board.mark,
+        mods: land.board.mods,
+        weight: land.board.weight,
+        nets: land.board.nets,
+        mark: land.board.mark,
         how: &*how,
     };
     let n = push_from(&ways, z, &mut *sums, &mut *flow);
@@ -134,14 +135,14 @@ fn carry(
         return Some(n.at);
     }
     let mended = mend(
-        board, guide, &*sums, &*flow, z, n.at, &mut *how, &mut *seen, &mut *rows,
+        land, guide, &*sums, &*flow, z, n.at, &mut *how, &mut *seen, &mut *rows,
     );
     if mended { None } else { Some(n.at) }
 }
 
 // At a maker z: pushes what the way can carry, again while it can be mended, and goes back to before the step that carries no more.
 pub fn deliver(
-    board: &Board<'_>,
+    land: &Land<'_>,
     guide: &Guide,
     z: usize,
     how: &mut [u64],
@@ -150,17 +151,17 @@ pub fn deliver(
     sums: &mut [u32],
     flow: &mut [i32],
 ) -> usize
-    requires { Guided board.now × Steady (board_card board.now) board.now.mods.now sums.old flow.old × Thread board.now.mods.now board.now.nets.now board.now.mark.now how.old seen.old (length board.now.weight.now) z × (get_or board.now.mark.now z 0 ≡ 2) × (length seen.old ≡ length board.now.weight.now) }
-    ensures { Steady (board_card board.now) board.now.mods.now sums.new flow.new × Thread board.now.mods.now board.now.nets.now board.now.mark.now how.new seen.new (length board.now.weight.now) result }
+    requires { Steady (board_card land.now.board) land.now.board.mods.now sums.old flow.old × Thread land.now.board.mods.now land.now.board.nets.now land.now.board.mark.now how.old seen.old (length land.now.board.weight.now) z × (get_or land.now.board.mark.now z 0 ≡ 2) × (length seen.old ≡ length land.now.board.weight.now) }
+    ensures { Steady (board_card land.now.board) land.now.board.mods.now sums.new flow.new × Thread land.now.board.mods.now land.now.board.nets.now land.now.board.mark.now how.new seen.new (length land.now.board.weight.now) result }
 {
     let mut stop: Option<usize> = None;
     for _ in 0..PUSHES {
         stop = carry(
-            board, guide, z, &mut *how, &mut *seen, &mut *rows, &mut *sums, &mut *flow,
+            land, guide, z, &mut *how, &mut *seen, &mut *rows, &mut *sums, &mut *flow,
         );
         if stop.is_some() {
             break;
         }
     }
-    back(board, z, stop, &mut *how, &mut *seen)
+    back(&land.board, z, stop, &mut *how, &mut *seen)
 }

@@ -6,4 +6,4 @@ use Rattle.climb.proofs.climb.try_all.Given as goal
 
 abbrev pub invariant-loop-s : goal.invariant-loop-s
 invariant-loop-s l =
-    Steady (board_card l.board) l.board.mods.now l.sums l.flow × Sized l.board.mark.now l.board.weight.now l.how l.seen × Empty l.how
+    Steady (board_card l.land.board) l.land.board.mods.now l.sums l.flow × Sized l.land.board.mark.now l.land.board.weight.now l.how l.seen × Empty l.how

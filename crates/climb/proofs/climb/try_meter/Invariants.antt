@@ -7,4 +7,4 @@ use Rattle.climb.proofs.climb.try_meter.Given as goal
 
 abbrev pub invariant-loop : goal.invariant-loop
 invariant-loop l =
-    Steady (board_card l.board) l.board.mods.now l.sums l.flow × Thread l.board.mods.now l.board.nets.now l.board.mark.now l.how l.seen (length l.board.weight.now) l.u × Sized l.board.mark.now l.board.weight.now l.how l.seen
+    Steady (board_card l.land.board) l.land.board.mods.now l.sums l.flow × Thread l.land.board.mods.now l.land.board.nets.now l.land.board.mark.now l.how l.seen (length l.land.board.weight.now) l.u × Sized l.land.board.mark.now l.land.board.weight.now l.how l.seen

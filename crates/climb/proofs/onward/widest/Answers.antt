@@ -7,8 +7,8 @@ use Rattle.climb.proofs.onward.widest.Goals as goal
 
 pub step_room-room-requires : goal.step_room-room-requires
 step_room-room-requires c =
-    let b = c.args.board.now in
-    let v = c.requires.1 in
+    let b = c.args.land.now.board in
+    let v = c.requires.0 in
     let o : Onward b.mods.now b.nets.now b.mark.now c.args.how.now c.args.seen.now c.args.u c.args.rank c.in-Some.x = search rules in
     let t = tables_of b in
     let net = (t.net (left c.in-Some.x) o.in_left).0 in

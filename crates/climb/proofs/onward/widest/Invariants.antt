@@ -5,4 +5,4 @@ use Rattle.climb.proofs.onward.widest.Given as goal
 
 abbrev pub invariant-loop-i : goal.invariant-loop-i
 invariant-loop-i l =
-    IfSome l.best (λ x. Onward l.board.mods.now l.board.nets.now l.board.mark.now l.how l.seen l.u l.rank x)
+    IfSome l.best (λ x. Onward l.land.board.mods.now l.land.board.nets.now l.land.board.mark.now l.how l.seen l.u l.rank x)
