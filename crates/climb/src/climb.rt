@@ -4,7 +4,7 @@ ghost use Rattle.flow.specs.Board.{board_card};
 ghost use Rattle.flow.specs.Raise.{Steady};
 ghost use Rattle.climb.specs.Climb.{Guided, Empty, Sized};
 
-use crate::land::Land;
+use crate::land::{Land, Load, Scout, Sight};
 use flow::board::Board;
 use reach::{Card, FAR, Flow, Guide, Rows};
 
@@ -17,8 +17,7 @@ fn try_meter(
     s: usize,
     how: &mut [u64],
     seen: &mut [u16],
-    guide: &mut Guide,
-    rows: &mut Rows,
+    scout: &mut Scout,
     sums: &mut [u32],
     flow: &mut [i32],
 )
@@ -28,17 +27,33 @@ fn try_meter(
     how[s] = flow::search::pack(1, 0, 0);
     let mut u = s;
     for _ in 0..TRIES {
-        let step = crate::onward::onward(land, &*sums, &*flow, &*how, &*seen, u, &mut *guide);
+        let load = Load {
+            land: &*land,
+            sums: &*sums,
+            flow: &*flow,
+        };
+        let sight = Sight {
+            load,
+            how: &*how,
+            seen: &*seen,
+        };
+        let step = crate::onward::onward(&sight, u, &mut scout.guide);
         if let Some(x) = step {
-            rows.touch(land.board.nets, flow::push::left_pin(x));
+            scout.rows.touch(land.board.nets, flow::push::left_pin(x));
             u = crate::ways::enter(&land.board, u, x, &mut *how, &mut *seen);
             if land.board.mark[u] == 2 {
                 u = crate::ways::deliver(
-                    land, &*guide, u, &mut *how, &mut *seen, &mut *rows, &mut *sums, &mut *flow,
+                    land,
+                    u,
+                    &mut *how,
+                    &mut *seen,
+                    &mut *scout,
+                    &mut *sums,
+                    &mut *flow,
                 );
             }
         } else {
-            guide.far[u] = FAR;
+            scout.guide.far[u] = FAR;
             if land.board.mark[u] == 1 {
                 break;
             }
@@ -54,8 +69,7 @@ fn try_all(
     land: &Land<'_>,
     how: &mut [u64],
     seen: &mut [u16],
-    guide: &mut Guide,
-    rows: &mut Rows,
+    scout: &mut Scout,
     sums: &mut [u32],
     flow: &mut [i32],
 )
@@ -63,14 +77,13 @@ fn try_all(
     ensures { Steady (board_card land.now.board) land.now.board.mods.now sums.new flow.new × Empty how.new }
 {
     for s in 0..land.board.mark.len() {
-        if (land.board.mark[s] == 1) & (guide.far[s] != FAR) {
+        if (land.board.mark[s] == 1) & (scout.guide.far[s] != FAR) {
             try_meter(
                 land,
                 s,
                 &mut *how,
                 &mut *seen,
-                &mut *guide,
-                &mut *rows,
+                &mut *scout,
                 &mut *sums,
                 &mut *flow,
             );
@@ -83,8 +96,7 @@ fn climb_on(
     land: &Land<'_>,
     how: &mut [u64],
     seen: &mut [u16],
-    guide: &mut Guide,
-    rows: &mut Rows,
+    scout: &mut Scout,
     sums: &mut [u32],
     flow: &mut [i32],
 )
@@ -102,7 +114,7 @@ fn climb_on(
             sums: &*sums,
             flow: &*flow,
         };
-        if !reach::look(now, &mut *rows, &mut *guide) {
+        if !reach::look(now, &mut scout.rows, &mut scout.guide) {
             break;
         }
         seen.fill(0);
@@ -110,8 +122,7 @@ fn climb_on(
             land,
             &mut *how,
             &mut *seen,
-            &mut *guide,
-            &mut *rows,
+            &mut *scout,
             &mut *sums,
             &mut *flow,
         );
@@ -134,18 +145,12 @@ pub fn climb(
         mods: board.mods,
         weight: board.weight,
     };
-    let mut guide = Guide::NEW;
-    let mut rows = Rows::EMPTY;
+    let mut scout = Scout {
+        guide: Guide::NEW,
+        rows: Rows::EMPTY,
+    };
     flow::engine::net_sums(board.first, &*flow, &mut *sums);
     how.fill(0);
-    rows.begin(card, board.mark, &*sums);
-    climb_on(
-        &Land { board: *board },
-        how,
-        seen,
-        &mut guide,
-        &mut rows,
-        sums,
-        flow,
-    );
+    scout.rows.begin(card, board.mark, &*sums);
+    climb_on(&Land { board: *board }, how, seen, &mut scout, sums, flow);
 }

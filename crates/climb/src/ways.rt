@@ -2,15 +2,13 @@
 ghost use Rattle.std.specs.Prelude.{◌≡◌, ◌≢◌, suc, ◌+◌, ◌≤◌, ◌<◌, length, get_or, set, IfNone};
 ghost use Rattle.flow.specs.Search.{In, rank, left, kind, entered};
 ghost use Rattle.flow.specs.Board.{board_card};
-ghost use Rattle.flow.specs.Push.{Level};
 ghost use Rattle.flow.specs.Raise.{Steady};
 ghost use Rattle.climb.specs.Climb.{Thread, Onward, Instead};
 
-use crate::land::Land;
+use crate::land::{Land, Load, Scout};
 use flow::board::Board;
 use flow::kind::{Kind, step_kind};
 use flow::push::{Ways, push_from};
-use reach::{Guide, Rows};
 
 // How many pushes an arrival at a maker is given.
 const PUSHES: usize = 256;
@@ -84,39 +82,36 @@ pub fn back(
 
 // Another step in place of the one to v, on the way to z, if the widest leads there; was it put?
 fn mend(
-    land: &Land<'_>,
-    guide: &Guide,
-    sums: &[u32],
-    flow: &[i32],
+    load: &Load<'_>,
     z: usize,
     v: usize,
     how: &mut [u64],
     seen: &mut [u16],
-    rows: &mut Rows,
+    scout: &mut Scout,
 ) -> bool
-    requires { Level land.now.board.mods.now land.now.board.weight.now sums.now flow.now × Thread land.now.board.mods.now land.now.board.nets.now land.now.board.mark.now how.old seen.old (length land.now.board.weight.now) z × (length seen.old ≡ length land.now.board.weight.now) }
-    ensures { Thread land.now.board.mods.now land.now.board.nets.now land.now.board.mark.now how.new seen.new (length land.now.board.weight.now) z }
+    requires { Thread load.now.land.now.board.mods.now load.now.land.now.board.nets.now load.now.land.now.board.mark.now how.old seen.old (length load.now.land.now.board.weight.now) z × (length seen.old ≡ length load.now.land.now.board.weight.now) }
+    ensures { Thread load.now.land.now.board.mods.now load.now.land.now.board.nets.now load.now.land.now.board.mark.now how.new seen.new (length load.now.land.now.board.weight.now) z }
 {
-    if v >= how.len() || how[v] == 0 || land.board.mark[v] == 1 {
+    let board = &load.land.board;
+    if v >= how.len() || how[v] == 0 || board.mark[v] == 1 {
         return false;
     }
-    let step = crate::onward::instead(land, sums, flow, &*seen, guide, v, &mut *how);
+    let step = crate::onward::instead(load, &*seen, &scout.guide, v, &mut *how);
     let Some(x) = step else {
         return false;
     };
-    rows.touch(land.board.nets, flow::push::left_pin(x));
-    swap(&land.board, z, v, x, &mut *how, &mut *seen);
+    scout.rows.touch(board.nets, flow::push::left_pin(x));
+    swap(board, z, v, x, &mut *how, &mut *seen);
     true
 }
 
 // At a maker z: pushes what the way can carry. A long way that carried something is mended where it is narrow; the result is where it could not be.
 fn carry(
     land: &Land<'_>,
-    guide: &Guide,
     z: usize,
     how: &mut [u64],
     seen: &mut [u16],
-    rows: &mut Rows,
+    scout: &mut Scout,
     sums: &mut [u32],
     flow: &mut [i32],
 ) -> Option<usize>
@@ -134,20 +129,22 @@ fn carry(
     if (n.room == 0) | (crate::onward::rank_of(how[z]) <= crate::onward::LONG) {
         return Some(n.at);
     }
-    let mended = mend(
-        land, guide, &*sums, &*flow, z, n.at, &mut *how, &mut *seen, &mut *rows,
-    );
+    let load = Load {
+        land,
+        sums: &*sums,
+        flow: &*flow,
+    };
+    let mended = mend(&load, z, n.at, &mut *how, &mut *seen, &mut *scout);
     if mended { None } else { Some(n.at) }
 }
 
 // At a maker z: pushes what the way can carry, again while it can be mended, and goes back to before the step that carries no more.
 pub fn deliver(
     land: &Land<'_>,
-    guide: &Guide,
     z: usize,
     how: &mut [u64],
     seen: &mut [u16],
-    rows: &mut Rows,
+    scout: &mut Scout,
     sums: &mut [u32],
     flow: &mut [i32],
 ) -> usize
@@ -157,7 +154,13 @@ pub fn deliver(
     let mut stop: Option<usize> = None;
     for _ in 0..PUSHES {
         stop = carry(
-            land, guide, z, &mut *how, &mut *seen, &mut *rows, &mut *sums, &mut *flow,
+            land,
+            z,
+            &mut *how,
+            &mut *seen,
+            &mut *scout,
+            &mut *sums,
+            &mut *flow,
         );
         if stop.is_some() {
             break;

@@ -13,12 +13,14 @@ loop-init c =
     let pre = c.requires in
     (pre.0, thread_start args.land.now.board args.how.now args.seen.now args.s c.pack.result pre.2 pre.1.how pre.3 pre.4 (omega (arith, c.pack.ensures)), record { how = length-set args.how.now args.s c.pack.result ∙ pre.1.how; seen = pre.1.seen })
 
-pub onward-step-requires : goal.onward-step-requires
-onward-step-requires c =
-    let pre = c.requires in
+pub invariant_of-load : goal.invariant_of-load
+invariant_of-load c =
     let args = c.args in
     let loop = c.loop in
-    (thread_level args.land.now.board c.args.land.now.guided loop.invariant.1 loop.sums loop.flow loop.invariant.0, loop.invariant.2.how, loop.invariant.2.seen, tip_below loop.invariant.1)
+    record { level = thread_level args.land.now.board args.land.now.guided loop.invariant.1 loop.sums loop.flow loop.invariant.0 }
+
+pub onward-step-requires : goal.onward-step-requires
+onward-step-requires c = tip_below c.loop.invariant.1
 
 pub loop-preserved : goal.loop-preserved
 loop-preserved c =

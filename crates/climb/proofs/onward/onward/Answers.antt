@@ -6,5 +6,5 @@ use Rattle.climb.proofs.onward.onward.Goals as goal
 pub leave_by-step-requires : goal.leave_by-step-requires
 leave_by-step-requires c =
     let pre = c.requires in
-    let own = (tables_of c.args.land.now.board).own c.args.u c.loop-i.i pre.3 (record { low = omega arith; high = omega arith }) in
-    (pre.0.sums, pre.0.flows, pre.1, pre.2, own.0, own.1, search rules, search rules, search rules)
+    let own = (tables_of c.args.sight.now.load.land.now.board).own c.args.u c.loop-i.i pre (record { low = omega arith; high = omega arith }) in
+    (own.0, own.1, search rules, search rules, search rules)

@@ -5,4 +5,4 @@ use Rattle.climb.proofs.onward.widest.Given as goal
 
 abbrev pub invariant-loop-i : goal.invariant-loop-i
 invariant-loop-i l =
-    IfSome l.best (λ x. Onward l.land.board.mods.now l.land.board.nets.now l.land.board.mark.now l.how l.seen l.u l.rank x)
+    IfSome l.best (λ x. Onward l.sight.load.land.now.board.mods.now l.sight.load.land.now.board.nets.now l.sight.load.land.now.board.mark.now l.sight.how.now l.sight.seen.now l.u l.rank x)

@@ -12,11 +12,11 @@ returns-then-n-rank_of c =
     let pre = c.requires in
     (thread_carried c.args.land.now.board c.args.land.now.guided pre.1 c.args.sums.now c.args.flow.now pre.0 pre.2 c.push_from-n.ensures.1, pre.1)
 
-pub mend-mended-requires : goal.mend-mended-requires
-mend-mended-requires c =
+pub invariant_of-load : goal.invariant_of-load
+invariant_of-load c =
     let b = c.args.land.now.board in
     let pre = c.requires in
-    (thread_level b c.args.land.now.guided pre.1 _ _ (thread_carried b c.args.land.now.guided pre.1 c.args.sums.now c.args.flow.now pre.0 pre.2 c.push_from-n.ensures.1), pre.1, pre.3)
+    record { level = thread_level b c.args.land.now.guided pre.1 _ _ (thread_carried b c.args.land.now.guided pre.1 c.args.sums.now c.args.flow.now pre.0 pre.2 c.push_from-n.ensures.1) }
 
 pub returns-then-mended : goal.returns-then-mended
 returns-then-mended c =
