@@ -1,8 +1,7 @@
 ghost use Rattle.std.specs.Prelude.{◌≡◌, ◌≤◌, ◌<◌, length, get_or};
 ghost use Rattle.line.specs.Flow.{Fair};
 ghost use Rattle.flow.specs.Board.{board_card};
-ghost use Rattle.flow.specs.Raise.{Steady};
-ghost use Rattle.climb.specs.Climb.{Guided, Empty, Sized};
+ghost use Rattle.climb.specs.Climb.{Guided, Empty, Sized, SteadyOn};
 
 use crate::land::{Land, Load, Scout, Sight};
 use flow::board::Board;
@@ -21,8 +20,8 @@ fn try_meter(
     sums: &mut [u32],
     flow: &mut [i32],
 )
-    requires { Steady (board_card land.now.board) land.now.board.mods.now sums.old flow.old × Sized land.now.board.mark.now land.now.board.weight.now how.old seen.old × Empty how.old × (s < length land.now.board.mark.now) × (get_or land.now.board.mark.now s 0 ≡ 1) }
-    ensures { Steady (board_card land.now.board) land.now.board.mods.now sums.new flow.new × Empty how.new }
+    requires { SteadyOn land.now.board sums.old flow.old × Sized land.now.board.mark.now land.now.board.weight.now how.old seen.old × Empty how.old × (s < length land.now.board.mark.now) × (get_or land.now.board.mark.now s 0 ≡ 1) }
+    ensures { SteadyOn land.now.board sums.new flow.new × Empty how.new }
 {
     how[s] = flow::search::pack(1, 0, 0);
     let mut u = s;
@@ -73,8 +72,8 @@ fn try_all(
     sums: &mut [u32],
     flow: &mut [i32],
 )
-    requires { Steady (board_card land.now.board) land.now.board.mods.now sums.old flow.old × Sized land.now.board.mark.now land.now.board.weight.now how.old seen.old × Empty how.old }
-    ensures { Steady (board_card land.now.board) land.now.board.mods.now sums.new flow.new × Empty how.new }
+    requires { SteadyOn land.now.board sums.old flow.old × Sized land.now.board.mark.now land.now.board.weight.now how.old seen.old × Empty how.old }
+    ensures { SteadyOn land.now.board sums.new flow.new × Empty how.new }
 {
     for s in 0..land.board.mark.len() {
         if (land.board.mark[s] == 1) & (scout.guide.far[s] != FAR) {
@@ -100,7 +99,7 @@ fn climb_on(
     sums: &mut [u32],
     flow: &mut [i32],
 )
-    requires { Steady (board_card land.now.board) land.now.board.mods.now sums.old flow.old × Sized land.now.board.mark.now land.now.board.weight.now how.old seen.old × Empty how.old }
+    requires { SteadyOn land.now.board sums.old flow.old × Sized land.now.board.mark.now land.now.board.weight.now how.old seen.old × Empty how.old }
     ensures { Fair (board_card land.now.board) flow.new }
 {
     let card = Card {

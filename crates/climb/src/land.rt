@@ -1,4 +1,4 @@
-// What a climb goes over and by: the board, the flow and the way as they are read, and the guide.
+// What a climb goes over and by: the board, the flow and the way as they are read, and the guide. What it writes, `how`, `seen`, `sums` and `flow`, stays slices: a struct of `&mut` fields was tried, and of what is lent as `&` out of one, as each look needs it, a proof knows the length and not the numbers.
 ghost use Rattle.flow.specs.Push.{Level};
 ghost use Rattle.climb.specs.Climb.{Guided, Sized};
 

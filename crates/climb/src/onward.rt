@@ -3,7 +3,7 @@ ghost use Rattle.std.specs.Prelude.{◌≡◌, ◌≢◌, false, suc, ◌+◌, �
 ghost use Rattle.flow.specs.Search.{In, rank, left};
 ghost use Rattle.flow.specs.Push.{Trail};
 ghost use Rattle.flow.specs.Kinds.{number_of};
-ghost use Rattle.climb.specs.Climb.{Entry, Onward, Instead};
+ghost use Rattle.climb.specs.Climb.{Entry, Ahead, Replacing};
 
 use crate::land::{Load, Sight};
 use flow::board::Board;
@@ -75,7 +75,7 @@ fn entry(sight: &Sight<'_>, guide: &Guide, look: Look) -> Option<u64>
 // The first step that leaves by pin a to the distance before d, as one number, if there is one. Only a net by which the distance d was found has one.
 fn leave_by(sight: &Sight<'_>, guide: &Guide, u: usize, a: u16, d: u16, rank: usize) -> Option<u64>
     requires { (a < length sight.now.load.land.now.board.mods.now) × (get_or sight.now.load.land.now.board.mods.now a 0 ≡ u) × (rank ≤ length sight.now.load.land.now.board.mark.now) × (0 < rank) × (0 < d) }
-    ensures { IfSome result (λ x. Onward sight.now.load.land.now.board.mods.now sight.now.load.land.now.board.nets.now sight.now.load.land.now.board.mark.now sight.now.how.now sight.now.seen.now u rank x) }
+    ensures { IfSome result (λ x. Ahead sight.now.load.land.now.board sight.now.how.now sight.now.seen.now u rank x) }
 {
     let board = &sight.load.land.board;
     let p = usize::from(a);
@@ -99,7 +99,7 @@ fn leave_by(sight: &Sight<'_>, guide: &Guide, u: usize, a: u16, d: u16, rank: us
 // Of the next steps from u, one that carries the most, if there is one.
 fn widest(sight: &Sight<'_>, guide: &Guide, u: usize, d: u16, rank: usize) -> Option<u64>
     requires { (u < length sight.now.load.land.now.board.mark.now) × (rank ≤ length sight.now.load.land.now.board.mark.now) × (0 < rank) × (0 < d) }
-    ensures { IfSome result (λ x. Onward sight.now.load.land.now.board.mods.now sight.now.load.land.now.board.nets.now sight.now.load.land.now.board.mark.now sight.now.how.now sight.now.seen.now u rank x) }
+    ensures { IfSome result (λ x. Ahead sight.now.load.land.now.board sight.now.how.now sight.now.seen.now u rank x) }
 {
     let board = &sight.load.land.board;
     let mut best: Option<u64> = None;
@@ -126,7 +126,7 @@ fn widest(sight: &Sight<'_>, guide: &Guide, u: usize, d: u16, rank: usize) -> Op
 // The next step from u, from the pin on where the last look at u ended, if there is one. On a long way each push costs much, so there the widest step is sought.
 pub fn onward(sight: &Sight<'_>, u: usize, guide: &mut Guide) -> Option<u64>
     requires { u < length sight.now.load.land.now.board.mark.now }
-    ensures { IfSome result (λ x. Onward sight.now.load.land.now.board.mods.now sight.now.load.land.now.board.nets.now sight.now.load.land.now.board.mark.now sight.now.how.now sight.now.seen.now u (suc (rank (get_or sight.now.how.now u 0))) x) }
+    ensures { IfSome result (λ x. Ahead sight.now.load.land.now.board sight.now.how.now sight.now.seen.now u (suc (rank (get_or sight.now.how.now u 0))) x) }
 {
     let board = &sight.load.land.board;
     let d = guide.far[u];
@@ -151,8 +151,8 @@ pub fn onward(sight: &Sight<'_>, u: usize, guide: &mut Guide) -> Option<u64>
 
 // x if the step that it tells leads to v.
 fn only_to(board: &Board<'_>, how: &[u64], seen: &[u16], v: usize, x: u64) -> Option<u64>
-    requires { Onward board.now.mods.now board.now.nets.now board.now.mark.now (set how.now v 0) seen.now (get_or board.now.mods.now (left (get_or how.now v 0)) 0) (rank (get_or how.now v 0)) x }
-    ensures { IfSome result (λ y. Instead board.now.mods.now board.now.nets.now board.now.mark.now how.now seen.now v y) }
+    requires { Ahead board.now (set how.now v 0) seen.now (get_or board.now.mods.now (left (get_or how.now v 0)) 0) (rank (get_or how.now v 0)) x }
+    ensures { IfSome result (λ y. Replacing board.now how.now seen.now v y) }
 {
     if usize::from(board.mods[flow::push::entered_pin(x)]) == v {
         Some(x)
@@ -171,7 +171,7 @@ pub fn instead(
 ) -> Option<u64>
     requires { Trail load.now.land.now.board.mods.now load.now.land.now.board.nets.now load.now.land.now.board.mark.now how.old (length load.now.land.now.board.weight.now) × In how.old v × (get_or load.now.land.now.board.mark.now v 0 ≢ 1) × (0 < rank (get_or how.old v 0)) × (length seen.now ≡ length load.now.land.now.board.weight.now) }
     ensures kept { how.new ≡ how.old }
-    ensures step { IfSome result (λ x. Instead load.now.land.now.board.mods.now load.now.land.now.board.nets.now load.now.land.now.board.mark.now how.old seen.now v x) }
+    ensures step { IfSome result (λ x. Replacing load.now.land.now.board how.old seen.now v x) }
 {
     let board = &load.land.board;
     let old = how[v];

@@ -1,9 +1,7 @@
 // The way from a meter to the module reached last: one step more, one step back, and what a maker at its end takes.
 ghost use Rattle.std.specs.Prelude.{◌≡◌, ◌≢◌, suc, ◌+◌, ◌≤◌, ◌<◌, length, get_or, set, IfNone};
 ghost use Rattle.flow.specs.Search.{In, rank, left, kind, entered};
-ghost use Rattle.flow.specs.Board.{board_card};
-ghost use Rattle.flow.specs.Raise.{Steady};
-ghost use Rattle.climb.specs.Climb.{Thread, Onward, Instead};
+ghost use Rattle.climb.specs.Climb.{WayTo, Ahead, Replacing, SteadyOn};
 
 use crate::land::{Land, Load, Scout};
 use flow::board::Board;
@@ -29,24 +27,24 @@ fn put_step(board: &Board<'_>, x: u64, how: &mut [u64], seen: &mut [u16]) -> usi
 
 // One step more: the module it leads to.
 pub fn enter(board: &Board<'_>, u: usize, x: u64, how: &mut [u64], seen: &mut [u16]) -> usize
-    requires { Thread board.now.mods.now board.now.nets.now board.now.mark.now how.old seen.old (length board.now.weight.now) u × Onward board.now.mods.now board.now.nets.now board.now.mark.now how.old seen.old u (suc (rank (get_or how.old u 0))) x × (length seen.old ≡ length board.now.weight.now) × (length board.now.mark.now < 65535) }
-    ensures { Thread board.now.mods.now board.now.nets.now board.now.mark.now how.new seen.new (length board.now.weight.now) result }
+    requires { WayTo board.now how.old seen.old u × Ahead board.now how.old seen.old u (suc (rank (get_or how.old u 0))) x × (length seen.old ≡ length board.now.weight.now) × (length board.now.mark.now < 65535) }
+    ensures { WayTo board.now how.new seen.new result }
 {
     put_step(board, x, &mut *how, &mut *seen)
 }
 
 // The step that x tells in place of the one to v, between the same modules: the way still ends at z.
 fn swap(board: &Board<'_>, z: usize, v: usize, x: u64, how: &mut [u64], seen: &mut [u16])
-    requires { Thread board.now.mods.now board.now.nets.now board.now.mark.now how.old seen.old (length board.now.weight.now) z × In how.old v × (get_or board.now.mark.now v 0 ≢ 1) × Instead board.now.mods.now board.now.nets.now board.now.mark.now how.old seen.old v x × (length seen.old ≡ length board.now.weight.now) × (length board.now.mark.now < 65535) }
-    ensures { Thread board.now.mods.now board.now.nets.now board.now.mark.now how.new seen.new (length board.now.weight.now) z }
+    requires { WayTo board.now how.old seen.old z × In how.old v × (get_or board.now.mark.now v 0 ≢ 1) × Replacing board.now how.old seen.old v x × (length seen.old ≡ length board.now.weight.now) × (length board.now.mark.now < 65535) }
+    ensures { WayTo board.now how.new seen.new z }
 {
     put_step(board, x, &mut *how, &mut *seen);
 }
 
 // One step back: the module before u.
 pub fn leave(board: &Board<'_>, u: usize, how: &mut [u64], seen: &mut [u16]) -> usize
-    requires { Thread board.now.mods.now board.now.nets.now board.now.mark.now how.old seen.old (length board.now.weight.now) u × (get_or board.now.mark.now u 0 ≢ 1) × (length seen.old ≡ length board.now.weight.now) }
-    ensures { Thread board.now.mods.now board.now.nets.now board.now.mark.now how.new seen.new (length board.now.weight.now) result × (rank (get_or how.new result 0) < rank (get_or how.old u 0)) }
+    requires { WayTo board.now how.old seen.old u × (get_or board.now.mark.now u 0 ≢ 1) × (length seen.old ≡ length board.now.weight.now) }
+    ensures { WayTo board.now how.new seen.new result × (rank (get_or how.new result 0) < rank (get_or how.old u 0)) }
 {
     let x = how[u];
     let a = flow::push::left_pin(x);
@@ -66,8 +64,8 @@ pub fn back(
     how: &mut [u64],
     seen: &mut [u16],
 ) -> usize
-    requires { Thread board.now.mods.now board.now.nets.now board.now.mark.now how.old seen.old (length board.now.weight.now) z × (length seen.old ≡ length board.now.weight.now) }
-    ensures { Thread board.now.mods.now board.now.nets.now board.now.mark.now how.new seen.new (length board.now.weight.now) result × IfNone stop (get_or board.now.mark.now result 0 ≡ 1) }
+    requires { WayTo board.now how.old seen.old z × (length seen.old ≡ length board.now.weight.now) }
+    ensures { WayTo board.now how.new seen.new result × IfNone stop (get_or board.now.mark.now result 0 ≡ 1) }
 {
     let mut u = z;
     while board.mark[u] != 1 {
@@ -89,8 +87,8 @@ fn mend(
     seen: &mut [u16],
     scout: &mut Scout,
 ) -> bool
-    requires { Thread load.now.land.now.board.mods.now load.now.land.now.board.nets.now load.now.land.now.board.mark.now how.old seen.old (length load.now.land.now.board.weight.now) z × (length seen.old ≡ length load.now.land.now.board.weight.now) }
-    ensures { Thread load.now.land.now.board.mods.now load.now.land.now.board.nets.now load.now.land.now.board.mark.now how.new seen.new (length load.now.land.now.board.weight.now) z }
+    requires { WayTo load.now.land.now.board how.old seen.old z × (length seen.old ≡ length load.now.land.now.board.weight.now) }
+    ensures { WayTo load.now.land.now.board how.new seen.new z }
 {
     let board = &load.land.board;
     if v >= how.len() || how[v] == 0 || board.mark[v] == 1 {
@@ -115,8 +113,8 @@ fn carry(
     sums: &mut [u32],
     flow: &mut [i32],
 ) -> Option<usize>
-    requires { Steady (board_card land.now.board) land.now.board.mods.now sums.old flow.old × Thread land.now.board.mods.now land.now.board.nets.now land.now.board.mark.now how.old seen.old (length land.now.board.weight.now) z × (get_or land.now.board.mark.now z 0 ≡ 2) × (length seen.old ≡ length land.now.board.weight.now) }
-    ensures { Steady (board_card land.now.board) land.now.board.mods.now sums.new flow.new × Thread land.now.board.mods.now land.now.board.nets.now land.now.board.mark.now how.new seen.new (length land.now.board.weight.now) z }
+    requires { SteadyOn land.now.board sums.old flow.old × WayTo land.now.board how.old seen.old z × (get_or land.now.board.mark.now z 0 ≡ 2) × (length seen.old ≡ length land.now.board.weight.now) }
+    ensures { SteadyOn land.now.board sums.new flow.new × WayTo land.now.board how.new seen.new z }
 {
     let ways = Ways {
         mods: land.board.mods,
@@ -148,8 +146,8 @@ pub fn deliver(
     sums: &mut [u32],
     flow: &mut [i32],
 ) -> usize
-    requires { Steady (board_card land.now.board) land.now.board.mods.now sums.old flow.old × Thread land.now.board.mods.now land.now.board.nets.now land.now.board.mark.now how.old seen.old (length land.now.board.weight.now) z × (get_or land.now.board.mark.now z 0 ≡ 2) × (length seen.old ≡ length land.now.board.weight.now) }
-    ensures { Steady (board_card land.now.board) land.now.board.mods.now sums.new flow.new × Thread land.now.board.mods.now land.now.board.nets.now land.now.board.mark.now how.new seen.new (length land.now.board.weight.now) result }
+    requires { SteadyOn land.now.board sums.old flow.old × WayTo land.now.board how.old seen.old z × (get_or land.now.board.mark.now z 0 ≡ 2) × (length seen.old ≡ length land.now.board.weight.now) }
+    ensures { SteadyOn land.now.board sums.new flow.new × WayTo land.now.board how.new seen.new result }
 {
     let mut stop: Option<usize> = None;
     for _ in 0..PUSHES {
