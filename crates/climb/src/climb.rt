@@ -39,7 +39,7 @@ fn try_meter(
         let step = crate::onward::onward(&sight, u, &mut scout.guide);
         if let Some(x) = step {
             scout.rows.touch(land.board.nets, flow::push::left_pin(x));
-            u = crate::ways::enter(&land.board, u, x, &mut *how, &mut *seen);
+            u = crate::ways::enter(land, u, x, &mut *how, &mut *seen);
             if land.board.mark[u] == 2 {
                 u = crate::ways::deliver(
                     land,

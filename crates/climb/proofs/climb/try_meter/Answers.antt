@@ -11,16 +11,16 @@ pub loop-init : goal.loop-init
 loop-init c =
     let args = c.args in
     let pre = c.requires in
-    (pre.0, thread_start args.land.now.board args.how.now args.seen.now args.s c.pack.result pre.2 pre.1.how pre.3 pre.4 (omega (arith, c.pack.ensures)), record { how = length-set args.how.now args.s c.pack.result ∙ pre.1.how; seen = pre.1.seen })
+    (pre.0, (thread_start args.land.now.board args.how.now args.seen.now args.s c.pack.result pre.2 pre.1.how pre.3 pre.4 (omega (arith, c.pack.ensures)), pre.1.seen), record { how = length-set args.how.now args.s c.pack.result ∙ pre.1.how; seen = pre.1.seen })
 
 pub invariant_of-load : goal.invariant_of-load
 invariant_of-load c =
     let args = c.args in
     let loop = c.loop in
-    record { level = thread_level args.land.now.board args.land.now.guided loop.invariant.1 loop.sums loop.flow loop.invariant.0 }
+    record { level = thread_level args.land.now.board args.land.now.guided loop.invariant.1.0 loop.sums loop.flow loop.invariant.0 }
 
 pub onward-step-requires : goal.onward-step-requires
-onward-step-requires c = tip_below c.loop.invariant.1
+onward-step-requires c = tip_below c.loop.invariant.1.0
 
 pub loop-preserved : goal.loop-preserved
 loop-preserved c =
@@ -37,4 +37,4 @@ pub returns : goal.returns
 returns c =
     let b = c.args.land.now.board in
     let back = c.back-end in
-    (c.loop.invariant.0, thread_end b.mods.now b.nets.now b.mark.now back.new.how back.new.seen (length b.weight.now) back.result back.ensures.0 back.ensures.1)
+    (c.loop.invariant.0, thread_end b.mods.now b.nets.now b.mark.now back.new.how back.new.seen (length b.weight.now) back.result back.ensures.0.0 back.ensures.1)
