@@ -1,7 +1,6 @@
 -- The flow stays steady and the way a thread, of which `u` is the end.
 use Rattle.std.proofs.Common.{length, arith}
-use Rattle.climb.proofs.Routes.{thread_level}
-use Rattle.climb.proofs.Threads.{thread_start, thread_end, tip_below}
+use Rattle.climb.proofs.Threads.{thread_start, thread_end}
 use Rattle.climb.proofs.climb.try_meter.Goals as goal
 use Rattle.climb.proofs.climb.try_meter.Goals.{in-Some+then-land-u-eq2, in-Some+else-land-u-eq2, in_default+else-land-u-eq1}
 
@@ -10,18 +9,6 @@ loop-init c =
     let args = c.args in
     let pre = c.requires in
     (pre.0, (thread_start args.land.now.board args.how.now args.seen.now args.s c.pack.result pre.2 pre.1.how pre.3 pre.4 (omega (arith, c.pack.ensures)), pre.1.seen))
-
-pub invariant_of-load : goal.invariant_of-load
-invariant_of-load c =
-    let args = c.args in
-    let loop = c.loop in
-    record { level = thread_level args.land.now.board args.land.now.guided loop.invariant.1.0 loop.sums loop.flow loop.invariant.0 }
-
-pub invariant_of-sight : goal.invariant_of-sight
-invariant_of-sight c = record { sized = record { how = c.loop.invariant.1.0.trail.lenw; seen = c.loop.invariant.1.1 } }
-
-pub onward-step-requires : goal.onward-step-requires
-onward-step-requires c = tip_below c.loop.invariant.1.0
 
 pub loop-preserved : goal.loop-preserved
 loop-preserved c =
