@@ -49,17 +49,15 @@ fn try_meter(
         if let Some(x) = step {
             scout.rows.touch(land.board.nets, flow::push::left_pin(x));
             u = crate::ways::enter(land, u, x, &mut *how, &mut *seen);
-            if land.board.mark[u] == 2 {
-                u = crate::ways::deliver(
-                    land,
-                    u,
-                    &mut *how,
-                    &mut *seen,
-                    &mut *scout,
-                    &mut *sums,
-                    &mut *flow,
-                );
-            }
+            u = crate::ways::deliver(
+                land,
+                u,
+                &mut *how,
+                &mut *seen,
+                &mut *scout,
+                &mut *sums,
+                &mut *flow,
+            );
         } else {
             scout.guide.far[u] = FAR;
             if land.board.mark[u] == 1 {

@@ -136,7 +136,7 @@ fn carry(
     if mended { None } else { Some(n.at) }
 }
 
-// At a maker z: pushes what the way can carry, again while it can be mended, and goes back to before the step that carries no more.
+// At a maker z: pushes what the way can carry, again while it can be mended, and goes back to before the step that carries no more. Elsewhere it stays.
 pub fn deliver(
     land: &Land<'_>,
     z: usize,
@@ -146,9 +146,12 @@ pub fn deliver(
     sums: &mut [u32],
     flow: &mut [i32],
 ) -> usize
-    requires { SteadyOn land.now.board sums.old flow.old × WayTo land.now.board how.old seen.old z × (get_or land.now.board.mark.now z 0 ≡ 2) }
+    requires { SteadyOn land.now.board sums.old flow.old × WayTo land.now.board how.old seen.old z }
     ensures { SteadyOn land.now.board sums.new flow.new × WayTo land.now.board how.new seen.new result }
 {
+    if land.board.mark[z] != 2 {
+        return z;
+    }
     let mut stop: Option<usize> = None;
     for _ in 0..PUSHES {
         stop = carry(

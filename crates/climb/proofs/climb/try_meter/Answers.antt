@@ -2,7 +2,7 @@
 use Rattle.std.proofs.Common.{length, arith}
 use Rattle.climb.proofs.Threads.{thread_start, thread_end}
 use Rattle.climb.proofs.climb.try_meter.Goals as goal
-use Rattle.climb.proofs.climb.try_meter.Goals.{in-Some+then-land-u-eq2, in-Some+else-land-u-eq2, in_default+else-land-u-eq1}
+use Rattle.climb.proofs.climb.try_meter.Goals.{in-Some, in_default+else-land-u-eq1}
 
 pub loop-init : goal.loop-init
 loop-init c =
@@ -14,8 +14,7 @@ pub loop-preserved : goal.loop-preserved
 loop-preserved c =
     let steady = c.loop.invariant.0 in
     elim c.match-step.branch [
-      | in-Some+then-land-u-eq2 w ↦ rw (w.sums-is, w.flow-is, w.how-is, w.seen-is, w.u-is) w.deliver-u.ensures
-      | in-Some+else-land-u-eq2 w ↦ rw (w.sums-is, w.flow-is, w.how-is, w.seen-is, w.u-is) (steady, w.enter-u.ensures)
+      | in-Some w ↦ rw (w.sums-is, w.flow-is, w.how-is, w.seen-is, w.u-is) w.deliver-u.ensures
       | in_default+else-land-u-eq1 w ↦ rw (w.sums-is, w.flow-is, w.how-is, w.seen-is, w.u-is) (steady, w.leave-u.ensures.0)
     ]
 
