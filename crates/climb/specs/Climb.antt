@@ -84,8 +84,9 @@ Ahead b w sn u r x = Onward b.mods.now b.nets.now b.mark.now w sn u r x
 abbrev pub Replacing : Board → List ℕ → List ℕ → ℕ → ℕ → Type 0
 Replacing b w sn v x = Instead b.mods.now b.nets.now b.mark.now w sn v x
 
+-- with a place for the mark of each net
 abbrev pub WayTo : Board → List ℕ → List ℕ → ℕ → Type 0
-WayTo b w sn u = Thread b.mods.now b.nets.now b.mark.now w sn (length b.weight.now) u
+WayTo b w sn u = Thread b.mods.now b.nets.now b.mark.now w sn (length b.weight.now) u × (length sn ≡ length b.weight.now)
 
 abbrev pub SteadyOn : Board → List ℕ → List ℤ → Type 0
 SteadyOn b sm fl = Steady (board_card b) b.mods.now sm fl

@@ -1,7 +1,8 @@
-ghost use Rattle.std.specs.Prelude.{◌≡◌, ◌≤◌, ◌<◌, length, get_or};
+ghost use Rattle.std.specs.Prelude.{◌≡◌, suc, ◌≤◌, ◌<◌, length, get_or, IfSome};
 ghost use Rattle.line.specs.Flow.{Fair};
 ghost use Rattle.flow.specs.Board.{board_card};
-ghost use Rattle.climb.specs.Climb.{Guided, Empty, Sized, SteadyOn};
+ghost use Rattle.flow.specs.Search.{rank};
+ghost use Rattle.climb.specs.Climb.{Guided, Empty, Sized, SteadyOn, WayTo, Ahead};
 
 use crate::land::{Land, Load, Scout, Sight};
 use flow::board::Board;
@@ -9,6 +10,24 @@ use reach::{Card, FAR, Flow, Guide, Rows};
 
 // How many steps a meter is given, forth and back, before the distances are looked at anew.
 const TRIES: usize = 65536;
+
+// The next step of the way to u, if there is one.
+fn next_step<'a>(
+    land: &'a Land<'a>,
+    u: usize,
+    how: &'a [u64],
+    seen: &'a [u16],
+    guide: &mut Guide,
+    sums: &'a [u32],
+    flow: &'a [i32],
+) -> Option<u64>
+    requires { SteadyOn land.now.board sums.now flow.now × WayTo land.now.board how.now seen.now u }
+    ensures { IfSome result (λ x. Ahead land.now.board how.now seen.now u (suc (rank (get_or how.now u 0))) x) }
+{
+    let load = Load { land, sums, flow };
+    let sight = Sight { load, how, seen };
+    crate::onward::onward(&sight, u, guide)
+}
 
 // Ways from the meter s, each as far down as it goes; a module with no step onward is tried no more.
 fn try_meter(
@@ -26,31 +45,19 @@ fn try_meter(
     how[s] = flow::search::pack(1, 0, 0);
     let mut u = s;
     for _ in 0..TRIES {
-        let load = Load {
-            land: &*land,
-            sums: &*sums,
-            flow: &*flow,
-        };
-        let sight = Sight {
-            load,
-            how: &*how,
-            seen: &*seen,
-        };
-        let step = crate::onward::onward(&sight, u, &mut scout.guide);
+        let step = next_step(&*land, u, &*how, &*seen, &mut scout.guide, &*sums, &*flow);
         if let Some(x) = step {
             scout.rows.touch(land.board.nets, flow::push::left_pin(x));
-            u = crate::ways::enter(&land.board, u, x, &mut *how, &mut *seen);
-            if land.board.mark[u] == 2 {
-                u = crate::ways::deliver(
-                    land,
-                    u,
-                    &mut *how,
-                    &mut *seen,
-                    &mut *scout,
-                    &mut *sums,
-                    &mut *flow,
-                );
-            }
+            u = crate::ways::enter(land, u, x, &mut *how, &mut *seen);
+            u = crate::ways::deliver(
+                land,
+                u,
+                &mut *how,
+                &mut *seen,
+                &mut *scout,
+                &mut *sums,
+                &mut *flow,
+            );
         } else {
             scout.guide.far[u] = FAR;
             if land.board.mark[u] == 1 {

@@ -12,13 +12,13 @@ use flow::push::{Ways, push_from};
 const PUSHES: usize = 256;
 
 // Puts the step that x tells to the module that it leads to. The room of a net is marked with the module that it leads to.
-fn put_step(board: &Board<'_>, x: u64, how: &mut [u64], seen: &mut [u16]) -> usize
-    requires { (left x < length board.now.nets.now) × (entered x < length board.now.mods.now) × (length how.old ≡ length board.now.mark.now) × (length seen.old ≡ length board.now.weight.now) × (length board.now.mark.now < 65535) }
-    ensures { (result ≡ get_or board.now.mods.now (entered x) 0) × (how.new ≡ set how.old result x) × (kind x ≡ 0 → seen.new ≡ set seen.old (get_or board.now.nets.now (left x) 0) (result + 1)) × (kind x ≢ 0 → seen.new ≡ seen.old) }
+fn put_step(land: &Land<'_>, x: u64, how: &mut [u64], seen: &mut [u16]) -> usize
+    requires { (left x < length land.now.board.nets.now) × (entered x < length land.now.board.mods.now) × (length how.old ≡ length land.now.board.mark.now) × (length seen.old ≡ length land.now.board.weight.now) }
+    ensures { (result ≡ get_or land.now.board.mods.now (entered x) 0) × (how.new ≡ set how.old result x) × (kind x ≡ 0 → seen.new ≡ set seen.old (get_or land.now.board.nets.now (left x) 0) (result + 1)) × (kind x ≢ 0 → seen.new ≡ seen.old) }
 {
-    let v = usize::from(board.mods[flow::push::entered_pin(x)]);
+    let v = usize::from(land.board.mods[flow::push::entered_pin(x)]);
     if step_kind(x) == Kind::Room {
-        let n = usize::from(board.nets[flow::push::left_pin(x)]);
+        let n = usize::from(land.board.nets[flow::push::left_pin(x)]);
         seen[n] = (v + 1) as u16;
     }
     how[v] = x;
@@ -26,24 +26,24 @@ fn put_step(board: &Board<'_>, x: u64, how: &mut [u64], seen: &mut [u16]) -> usi
 }
 
 // One step more: the module it leads to.
-pub fn enter(board: &Board<'_>, u: usize, x: u64, how: &mut [u64], seen: &mut [u16]) -> usize
-    requires { WayTo board.now how.old seen.old u × Ahead board.now how.old seen.old u (suc (rank (get_or how.old u 0))) x × (length seen.old ≡ length board.now.weight.now) × (length board.now.mark.now < 65535) }
-    ensures { WayTo board.now how.new seen.new result }
+pub fn enter(land: &Land<'_>, u: usize, x: u64, how: &mut [u64], seen: &mut [u16]) -> usize
+    requires { WayTo land.now.board how.old seen.old u × Ahead land.now.board how.old seen.old u (suc (rank (get_or how.old u 0))) x }
+    ensures { WayTo land.now.board how.new seen.new result }
 {
-    put_step(board, x, &mut *how, &mut *seen)
+    put_step(land, x, &mut *how, &mut *seen)
 }
 
 // The step that x tells in place of the one to v, between the same modules: the way still ends at z.
-fn swap(board: &Board<'_>, z: usize, v: usize, x: u64, how: &mut [u64], seen: &mut [u16])
-    requires { WayTo board.now how.old seen.old z × In how.old v × (get_or board.now.mark.now v 0 ≢ 1) × Replacing board.now how.old seen.old v x × (length seen.old ≡ length board.now.weight.now) × (length board.now.mark.now < 65535) }
-    ensures { WayTo board.now how.new seen.new z }
+fn swap(land: &Land<'_>, z: usize, v: usize, x: u64, how: &mut [u64], seen: &mut [u16])
+    requires { WayTo land.now.board how.old seen.old z × In how.old v × (get_or land.now.board.mark.now v 0 ≢ 1) × Replacing land.now.board how.old seen.old v x }
+    ensures { WayTo land.now.board how.new seen.new z }
 {
-    put_step(board, x, &mut *how, &mut *seen);
+    put_step(land, x, &mut *how, &mut *seen);
 }
 
 // One step back: the module before u.
 pub fn leave(board: &Board<'_>, u: usize, how: &mut [u64], seen: &mut [u16]) -> usize
-    requires { WayTo board.now how.old seen.old u × (get_or board.now.mark.now u 0 ≢ 1) × (length seen.old ≡ length board.now.weight.now) }
+    requires { WayTo board.now how.old seen.old u × (get_or board.now.mark.now u 0 ≢ 1) }
     ensures { WayTo board.now how.new seen.new result × (rank (get_or how.new result 0) < rank (get_or how.old u 0)) }
 {
     let x = how[u];
@@ -64,7 +64,7 @@ pub fn back(
     how: &mut [u64],
     seen: &mut [u16],
 ) -> usize
-    requires { WayTo board.now how.old seen.old z × (length seen.old ≡ length board.now.weight.now) }
+    requires { WayTo board.now how.old seen.old z }
     ensures { WayTo board.now how.new seen.new result × IfNone stop (get_or board.now.mark.now result 0 ≡ 1) }
 {
     let mut u = z;
@@ -87,7 +87,7 @@ fn mend(
     seen: &mut [u16],
     scout: &mut Scout,
 ) -> bool
-    requires { WayTo load.now.land.now.board how.old seen.old z × (length seen.old ≡ length load.now.land.now.board.weight.now) }
+    requires { WayTo load.now.land.now.board how.old seen.old z }
     ensures { WayTo load.now.land.now.board how.new seen.new z }
 {
     let board = &load.land.board;
@@ -99,7 +99,7 @@ fn mend(
         return false;
     };
     scout.rows.touch(board.nets, flow::push::left_pin(x));
-    swap(board, z, v, x, &mut *how, &mut *seen);
+    swap(load.land, z, v, x, &mut *how, &mut *seen);
     true
 }
 
@@ -113,7 +113,7 @@ fn carry(
     sums: &mut [u32],
     flow: &mut [i32],
 ) -> Option<usize>
-    requires { SteadyOn land.now.board sums.old flow.old × WayTo land.now.board how.old seen.old z × (get_or land.now.board.mark.now z 0 ≡ 2) × (length seen.old ≡ length land.now.board.weight.now) }
+    requires { SteadyOn land.now.board sums.old flow.old × WayTo land.now.board how.old seen.old z × (get_or land.now.board.mark.now z 0 ≡ 2) }
     ensures { SteadyOn land.now.board sums.new flow.new × WayTo land.now.board how.new seen.new z }
 {
     let ways = Ways {
@@ -136,7 +136,7 @@ fn carry(
     if mended { None } else { Some(n.at) }
 }
 
-// At a maker z: pushes what the way can carry, again while it can be mended, and goes back to before the step that carries no more.
+// At a maker z: pushes what the way can carry, again while it can be mended, and goes back to before the step that carries no more. Elsewhere it stays.
 pub fn deliver(
     land: &Land<'_>,
     z: usize,
@@ -146,9 +146,12 @@ pub fn deliver(
     sums: &mut [u32],
     flow: &mut [i32],
 ) -> usize
-    requires { SteadyOn land.now.board sums.old flow.old × WayTo land.now.board how.old seen.old z × (get_or land.now.board.mark.now z 0 ≡ 2) × (length seen.old ≡ length land.now.board.weight.now) }
+    requires { SteadyOn land.now.board sums.old flow.old × WayTo land.now.board how.old seen.old z }
     ensures { SteadyOn land.now.board sums.new flow.new × WayTo land.now.board how.new seen.new result }
 {
+    if land.board.mark[z] != 2 {
+        return z;
+    }
     let mut stop: Option<usize> = None;
     for _ in 0..PUSHES {
         stop = carry(

@@ -7,7 +7,7 @@ use Rattle.climb.proofs.ways.back.Given as goal
 
 abbrev pub invariant-loop-u : goal.invariant-loop-u
 invariant-loop-u l =
-    WayTo l.board l.how l.seen l.u × (length l.how ≡ length l.initial.how) × (length l.seen ≡ length l.initial.seen)
+    WayTo l.board l.how l.seen l.u × (length l.how ≡ length l.initial.how)
 
 abbrev pub decreases-loop-u : goal.decreases-loop-u
 decreases-loop-u l =
