@@ -24,7 +24,7 @@ struct Value {
     taken: u64,
 }
 
-// What a number sends into its net, and what it takes from it. The lowest number takes more than 32 bits with a sign can hold.
+// What a number sends into its net, and what it takes from it: the checker shares no code with the engine that it checks. The lowest number takes more than 32 bits with a sign can hold.
 fn sent_of(x: i32) -> u64
     ensures { (result ≡ sent x) × (result ≤ most_sent) }
 {
