@@ -24,24 +24,17 @@ struct Value {
     taken: u64,
 }
 
-// A number above 0, and 0 for any other.
-fn above(x: i64) -> u64
-    ensures { result ≡ sent x }
-{
-    if x > 0 { x as u64 } else { 0 }
-}
-
-// What a number sends into its net, and what it takes from it. The lowest number takes more than 32 bits with a sign can hold.
+// What a number sends into its net, and what it takes from it: the checker shares no code with the engine that it checks. The lowest number takes more than 32 bits with a sign can hold.
 fn sent_of(x: i32) -> u64
     ensures { (result ≡ sent x) × (result ≤ most_sent) }
 {
-    above(x as i64)
+    u64::from(x.max(0).unsigned_abs())
 }
 
 fn taken_of(x: i32) -> u64
     ensures { (result ≡ taken x) × (result ≤ most_sent) }
 {
-    above(0 - x as i64)
+    u64::from(x.min(0).unsigned_abs())
 }
 
 // The same of the number of pin p.

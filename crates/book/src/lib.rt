@@ -144,7 +144,7 @@ pub fn u16_at(book: &[u8], i: usize) -> usize
     }
 }
 
-// The little-endian number of 4 bytes at an offset.
+// The little-endian number of 4 bytes at an offset. One function over the step would have both contracts again.
 pub fn u32_at(book: &[u8], i: usize) -> usize
     requires { i + 4 ≤ length book.now }
     ensures { (result ≡ u32 book.now i) × (result < 4294967296) }

@@ -35,7 +35,7 @@ impl<'a> Netlist<'a> {
         Layout { bytes: self.bytes }
     }
 
-    // How many modules it has.
+    // How many modules it has. This and what follows hand the call on, so that a caller needs no word of the layout.
     pub fn modules(self) -> usize
         ensures { result ≡ modules self.entry.bytes.now }
     {

@@ -1,9 +1,11 @@
 -- The climb over arrays: fs, ms, ws, nt, at, pl and mk are a card and its tables, as for a search. The way from a meter to the module reached last is w, how each
 -- module on it was reached, and sn, the module to which the room of each net leads. This page holds definitions only.
-use Rattle.std.specs.Prelude.{◌≡◌, ◌≢◌, Bool, true, List, ℕ, suc, ◌+◌, ◌*◌, ◌≤◌, ◌<◌, length, get_or, set}
+use Rattle.std.specs.Prelude.{◌≡◌, ◌≢◌, Bool, true, List, ℕ, ℤ, suc, ◌+◌, ◌*◌, ◌≤◌, ◌<◌, length, get_or, set}
 use Rattle.flow.specs.Search.{In, rank, left, kind, entered, Pin, Tables}
 use Rattle.flow.specs.Cards.{Laid}
 use Rattle.flow.specs.Push.{Trail}
+use Rattle.flow.specs.Raise.{Steady}
+use Rattle.flow.specs.Board.{board_card}
 use Rattle.flow.specs.declared.board.Board.{Board}
 
 -- the arrays of a card and its tables
@@ -73,3 +75,18 @@ pub record Thread (ms nt mk w sn : List ℕ) (N u : ℕ) : Type 0 where
 pub record Sized (mk ws w sn : List ℕ) : Type 0 where
   pub how : length w ≡ length mk
   pub seen : length sn ≡ length ws
+
+-- ---- the same of a board's arrays
+
+abbrev pub Ahead : Board → List ℕ → List ℕ → ℕ → ℕ → ℕ → Type 0
+Ahead b w sn u r x = Onward b.mods.now b.nets.now b.mark.now w sn u r x
+
+abbrev pub Replacing : Board → List ℕ → List ℕ → ℕ → ℕ → Type 0
+Replacing b w sn v x = Instead b.mods.now b.nets.now b.mark.now w sn v x
+
+-- with a place for the mark of each net
+abbrev pub WayTo : Board → List ℕ → List ℕ → ℕ → Type 0
+WayTo b w sn u = Thread b.mods.now b.nets.now b.mark.now w sn (length b.weight.now) u × (length sn ≡ length b.weight.now)
+
+abbrev pub SteadyOn : Board → List ℕ → List ℤ → Type 0
+SteadyOn b sm fl = Steady (board_card b) b.mods.now sm fl

@@ -2,5 +2,6 @@
 #![tactic(auto)]
 
 pub mod climb;
+mod land;
 mod onward;
 mod ways;

@@ -105,7 +105,7 @@ pub extern "C" fn platelayer_check(
     }
 }
 
-// The gate of a number; any number but the three is a bad gate: low above high.
+// The gate of a number, as the C interface hands it over; any number but the three is a bad gate: low above high.
 fn gate_of(gate: u32, a: f64, b: f64) -> Gate
     ensures { result ≡ gate_of gate a b }
 {

@@ -1,3 +1,4 @@
+// From any fair flow to one of the greatest value, with the near side and the far side.
 ghost use Rattle.std.specs.Prelude.{◌≡◌, ◌<◌, ◌^◌, length};
 ghost use Rattle.std.specs.List.{sum_by};
 ghost use Rattle.line.specs.Card.{outside, Far};

@@ -1,3 +1,4 @@
+// The kinds of a step, as the number of a module tells them.
 ghost use Rattle.std.specs.Prelude.{◌≡◌};
 ghost use Rattle.flow.specs.Search.{kind};
 ghost use Rattle.flow.specs.Kinds.{number_of};

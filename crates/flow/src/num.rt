@@ -1,3 +1,4 @@
+// What a number of a flow sends and takes.
 ghost use Rattle.std.specs.Prelude.{◌≡◌, ltb};
 ghost use Rattle.line.specs.Flow.{sent, taken};
 ghost use Rattle.flow.specs.Search.{gives};

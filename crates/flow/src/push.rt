@@ -72,7 +72,7 @@ fn push_step(nets: &[u16], x: u64, d: u32, sums: &mut [u32], flow: &mut [i32])
     flow[b] = less;
 }
 
-// The card's pins, nets and marks, and how a search reached each module: the ways back to the meters.
+// The card's pins, weights, nets and marks, and how a search reached each module: the ways back to the meters. No `Board`: `push_from` asks for no tables.
 #[derive(Clone, Copy)]
 pub struct Ways<'a> {
     pub mods: &'a [u16],

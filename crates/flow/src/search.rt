@@ -7,7 +7,7 @@ ghost use Rattle.flow.specs.Kinds.{number_of};
 use crate::board::Board;
 use crate::kind::Kind;
 
-// How the pins of one net are gone through: the pins lo .. hi, all of them or those that send; `from` is the pin left and the kind of step.
+// How the pins of one net are gone through: the pins lo .. hi, all of them or those that send, forwards or back; `from` is the pin left and the kind of step, `undo` the same where the pin entered sends less.
 #[derive(Clone, Copy)]
 struct Scan {
     lo: usize,
@@ -201,7 +201,7 @@ fn begin(mark: &[u8], k: u8, queue: &mut [u16], how: &mut [u64]) -> usize
     t
 }
 
-// What the meters reach by steps, with the step by which each module was reached; backwards, what reaches the makers, so that near and far are one search. A net is gone through at most twice, once for the pins that send and once for all, and each pin is left once.
+// What the meters reach by steps, with the step by which each module was reached; backwards, what reaches the makers, so that near and far are one search: `Found` reads `back`. A net is gone through at most twice, once for the pins that send and once for all, and each pin is left once.
 pub fn search(
     board: &Board<'_>,
     sums: &[u32],

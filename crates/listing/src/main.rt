@@ -13,6 +13,7 @@ fn read_full<R: Read>(input: &mut R, bytes: &mut [u8]) -> io::Result<usize>
     ensures taken { IfOk result (λ n. Consumes (R.remaining input.old) (R.remaining input.new) (take n bytes.new)) }
     ensures ended { IfOk result (λ n. n < length bytes.new → IsAtEnd (R.remaining input.new)) }
 {
+    // It counts the bytes that came, which no range knows beforehand.
     let mut done = 0;
     while done < bytes.len() {
         let n = input.read(&mut bytes[done..])?;

@@ -149,7 +149,7 @@ impl<'a> Sided<'a> {
         sum
     }
 
-    // Whether net n has a pin on the side and a pin off it.
+    // Whether net n has a pin on the side and a pin off it. A net with a netlist of its own would have to be asked to be of this one.
     pub fn crosses(self, n: usize, first: usize) -> bool
         requires { AtNet self.netlist.bytes.now n first }
         ensures { result ≡ crosses (side_of self.entry.bits.now) (net_of self.entry.netlist.bytes.now n) }

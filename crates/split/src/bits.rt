@@ -32,7 +32,7 @@ fn picked(x: u64, reached: bool) -> bool
     (x > 0) == reached
 }
 
-// The side of the modules that a search reached, or of those that it did not.
+// The side of the modules that a search reached, or of those that it did not: `Written` reads `reached`.
 pub fn write_side(how: &[u64], reached: bool, out: &mut [u8])
     requires { bytes_for (length how.now) ≤ length out.old }
     ensures { Written how.now reached (length how.now) out.old out.new }

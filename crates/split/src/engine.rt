@@ -1,7 +1,9 @@
-// The engine at work on a card's slices. What it works in is its own.
+// The engine at work on a card's slices. What it works in is its own: arrays of the largest size, since nothing is allocated, lent by fronts as long as the card's lists.
 ghost use Rattle.std.specs.Prelude.{◌≡◌, ◌≤◌, length};
 ghost use Rattle.line.specs.Flow.{Fair};
 ghost use Rattle.flow.specs.Board.{board_card};
+ghost use Rattle.flow.specs.Build.{Buildable};
+ghost use Rattle.flow.specs.Cards.{card_of};
 ghost use Rattle.flow.specs.Raise.{Ready};
 ghost use Rattle.split.specs.Solved.{Rooms, Slices, Begins, Solved};
 
@@ -49,7 +51,7 @@ pub fn lift(board: &Board<'_>, flow: &mut [i32])
 }
 
 // Near side, far side and flow of a card, from any fair flow, which is lifted first. The work is its own.
-pub fn solve(board: &Board<'_>, near: &mut [u8], far: &mut [u8], flow: &mut [i32])
+pub(crate) fn solve_on(board: &Board<'_>, near: &mut [u8], far: &mut [u8], flow: &mut [i32])
     requires { Slices board.now.first.now board.now.mods.now board.now.weight.now board.now.mark.now × Begins (board_card board.now) board.now.mods.now near.old far.old flow.old }
     ensures { Solved (board_card board.now) near.old far.old near.new far.new flow.new }
 {
@@ -66,6 +68,67 @@ pub fn solve(board: &Board<'_>, near: &mut [u8], far: &mut [u8], flow: &mut [i32
         &mut how[..m],
         &mut seen[..n],
         &mut sums[..n],
+        near,
+        far,
+        flow,
+    );
+}
+
+// The same with the tables built first, in lent work.
+fn solve_tabled(
+    first: &[u16],
+    mods: &[u16],
+    weight: &[u16],
+    mark: &[u8],
+    nets: &mut [u16],
+    at: &mut [u16],
+    pins: &mut [u16],
+    near: &mut [u8],
+    far: &mut [u8],
+    flow: &mut [i32],
+)
+    requires { Slices first.now mods.now weight.now mark.now × Buildable first.now mods.now weight.now mark.now nets.old at.old pins.old × Begins (card_of first.now mods.now weight.now mark.now) mods.now near.old far.old flow.old }
+    ensures { Solved (card_of first.now mods.now weight.now mark.now) near.old far.old near.new far.new flow.new }
+{
+    flow::tables::build(first, mods, weight, &mut *nets, &mut *at, &mut *pins);
+    let board = Board {
+        first,
+        mods,
+        weight,
+        nets: &*nets,
+        at: &*at,
+        pins: &*pins,
+        mark,
+    };
+    solve_on(&board, near, far, flow);
+}
+
+// Near side, far side and flow of a card that is lent as slices, from any fair flow. The tables and the work are its own.
+pub fn solve(
+    first: &[u16],
+    mods: &[u16],
+    weight: &[u16],
+    mark: &[u8],
+    near: &mut [u8],
+    far: &mut [u8],
+    flow: &mut [i32],
+)
+    requires { Slices first.now mods.now weight.now mark.now × Begins (card_of first.now mods.now weight.now mark.now) mods.now near.old far.old flow.old }
+    ensures { Solved (card_of first.now mods.now weight.now mark.now) near.old far.old near.new far.new flow.new }
+{
+    let p = mods.len();
+    let end = mark.len() + 1;
+    let mut nets: [u16; Book::PINS] = [0; Book::PINS];
+    let mut at: [u16; Book::MODULES + 1] = [0; Book::MODULES + 1];
+    let mut pins: [u16; Book::PINS] = [0; Book::PINS];
+    solve_tabled(
+        first,
+        mods,
+        weight,
+        mark,
+        &mut nets[..p],
+        &mut at[..end],
+        &mut pins[..p],
         near,
         far,
         flow,

@@ -26,7 +26,7 @@ fn split_exact(netlist: Netlist<'_>, near: &mut [u8], far: &mut [u8], flow: &mut
 {
     let numbers = Numbers::of(netlist);
     flow::engine::still(&mut *flow);
-    engine::solve(&numbers.board(), near, far, &mut *flow);
+    engine::solve_on(&numbers.board(), near, far, &mut *flow);
     let flowed = Flowed { netlist, flow };
     flowed.value()
 }

@@ -1,4 +1,4 @@
-// A book's numbers and the tables of its pins in arrays of their own, and the boards that they lend.
+// A book's numbers and the tables of its pins in arrays of their own, and the boards that they lend. The arrays are of the largest size, since nothing is allocated.
 #![tactic(auto, using(crate::proofs::Loads::few_modules, crate::proofs::Loads::few_nets, crate::proofs::Loads::few_pins))]
 
 ghost use Rattle.std.specs.Prelude.{◌≡◌, length};

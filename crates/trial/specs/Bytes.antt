@@ -1,8 +1,6 @@
 -- The bytes that a book is made of: little-endian numbers, one after the other.
 use Rattle.std.specs.Prelude.{ℕ, ◌+◌, ◌-◌, ◌^◌, List, ◌++◌, min}
 use Rattle.std.specs.Int.{to_le_bytes, w16, w32}
-use Rattle.trial.specs.declared.card.Mark.{Mark}
-use Rattle.trial.specs.declared.card.Mark.TheVariants.{Free, Meter, Maker}
 
 abbrev pub two_bytes : ℕ → List ℕ
 two_bytes x = to_le_bytes w16 x
@@ -19,8 +17,3 @@ entry kind start size =
 abbrev pub contents : ℕ → ℕ → ℕ → List ℕ
 contents modules nets pins =
     two_bytes 3 ++ entry 1 32 modules ++ entry 2 (32 + modules) nets ++ entry 3 (32 + modules + nets) pins
-
-abbrev pub mark_number : Mark → ℕ
-mark_number Free = 0
-mark_number Meter = 1
-mark_number Maker = 2

@@ -4,10 +4,11 @@ use Rattle.std.specs.List.{flat_map}
 use Rattle.trial.specs.declared.card.Module.{Module}
 use Rattle.trial.specs.declared.card.Net.{Net}
 use Rattle.trial.specs.declared.card.Put.{Put}
-use Rattle.trial.specs.Bytes.{two_bytes, contents, mark_number}
+use Rattle.book.specs.Marks.{number_of}
+use Rattle.trial.specs.Bytes.{two_bytes, contents}
 
 abbrev pub module_records : List Module → List ℕ
-module_records ms = flat_map (λ (m : Module). two_bytes m.0 ++ two_bytes (mark_number m.1)) ms
+module_records ms = flat_map (λ (m : Module). two_bytes m.0 ++ two_bytes (number_of m.1)) ms
 
 abbrev pub pin_records : List ℕ → List ℕ
 pin_records ps = flat_map two_bytes ps

@@ -1,5 +1,5 @@
 -- What is printed of an answer.
-use Rattle.std.specs.Prelude.{ℕ, ◌+◌, ◌-◌, ◌*◌, ◌/◌, ◌^◌, suc, zero, Bool, ◌&&◌, not, List, [], ◌∷◌, ◌++◌, length, min, nat_lt, codes, Option, Some, Result, Ok, Err, if◌then◌else◌}
+use Rattle.std.specs.Prelude.{⊤, ℕ, ◌+◌, ◌-◌, ◌*◌, ◌/◌, ◌^◌, suc, zero, Bool, ◌&&◌, not, List, [], ◌∷◌, ◌++◌, length, min, nat_lt, codes, Option, Some, Result, Ok, Err, if◌then◌else◌}
 use Rattle.std.specs.Fmt.{decimal}
 use Rattle.book.specs.declared.Refusal.{Refusal}
 use Rattle.book.specs.Answer.{number_of, place_of}
@@ -14,6 +14,19 @@ refused_text why = codes "refused " ++ decimal (number_of why) ++ codes " at " +
 abbrev pub answer_text : {T : Type 0} → (T → Option (List ℕ)) → Result T Refusal → Option (List ℕ)
 answer_text text (Ok x) = text x
 answer_text text (Err why) = Some (refused_text why)
+
+-- what the checker says
+abbrev pub checked_text : Result ⊤ Refusal → List ℕ
+checked_text (Ok _) = codes "accepted"
+checked_text (Err why) = refused_text why
+
+abbrev pub tails_text : Bool → List ℕ
+tails_text kept = if kept then codes "tails kept" else codes "a tail lost"
+
+-- a refusal, and whether it left what was lent as it was
+abbrev pub unwritten_text : Refusal → Bool → List ℕ
+unwritten_text why kept =
+    refused_text why ++ codes " " ++ (if kept then codes "nothing" else codes "something") ++ codes " written"
 
 -- whether module m is on a side, or off it, within the buffer
 abbrev pub on : List ℕ → ℕ → Bool

@@ -1,17 +1,11 @@
 // Books made from lists.
 ghost use Rattle.std.specs.Prelude.{◌≡◌, ◌+◌, ◌≤◌, ◌<◌, ◌++◌, [], length, take, drop, vec_len, replicate, ◌-◌, min, IfOk, OnOk};
-ghost use Rattle.trial.specs.Bytes.{two_bytes, four_bytes, entry, contents, mark_number};
+ghost use Rattle.book.specs.Marks.{number_of};
+ghost use Rattle.trial.specs.Bytes.{two_bytes, four_bytes, entry, contents};
 ghost use Rattle.trial.specs.Cards.{module_records, pin_records, net_records, all_pins, book_of, put_over, edited_of};
 
+use book::mark::Mark;
 use std::alloc::{AllocError, Global};
-
-// What a module is marked as.
-#[derive(Clone, Copy)]
-pub enum Mark {
-    Free,
-    Meter,
-    Maker,
-}
 
 // A module: its area and its mark.
 #[derive(Clone, Copy)]
@@ -77,11 +71,11 @@ impl Draft {
 
     // A module.
     pub fn add_module(&mut self, area: u16, mark: Mark) -> Result<(), AllocError>
-        ensures added { OnOk result (self.new.modules.items ≡ self.old.modules.items ++ two_bytes area ++ two_bytes (mark_number mark)) }
+        ensures added { OnOk result (self.new.modules.items ≡ self.old.modules.items ++ two_bytes area ++ two_bytes (number_of mark)) }
         ensures others { (self.new.nets.items ≡ self.old.nets.items) × (self.new.pins.items ≡ self.old.pins.items) }
     {
         push(&mut self.modules, area)?;
-        push(&mut self.modules, mark as u16)
+        push(&mut self.modules, u16::from(u8::from(mark)))
     }
 
     // A net, and how many pins it has; the pins are added apart.
@@ -177,6 +171,10 @@ impl Put {
     }
 }
 
+// A row on a damaged book: its name, the book's length, and the numbers put over it.
+#[derive(Clone, Copy)]
+pub struct Edited<'a>(pub &'a str, pub usize, pub &'a [Put]);
+
 impl Card<'_> {
     // The book of the card.
     pub fn book(&self, alloc: Global) -> Result<Vec<u8>, AllocError>
@@ -210,4 +208,20 @@ pub const BRIDGE: Card<'static> = Card {
         Module(4, Mark::Maker),
     ],
     nets: &[Net(2, &[0, 1]), Net(1, &[1, 2]), Net(2, &[2, 3])],
+};
+
+pub const FAN: Card<'static> = Card {
+    modules: &[METER, FREE, MAKER],
+    nets: &[Net(1, &[0, 1, 2])],
+};
+
+pub const WITHOUT_NETS: Card<'static> = Card {
+    modules: &[METER, MAKER],
+    nets: &[],
+};
+
+// A module alone, which no book may have.
+pub const ONE: Card<'static> = Card {
+    modules: &[METER],
+    nets: &[],
 };

@@ -7,6 +7,9 @@ mod said;
 #[cfg(test)]
 mod tests;
 
-pub use card::{BRIDGE, Card, Draft, FREE, MAKER, METER, Mark, Module, Net, Put};
-pub use lent::kept;
-pub use said::{Answer, Modules, Refused};
+pub use book::mark::Mark;
+pub use card::{
+    BRIDGE, Card, Draft, Edited, FAN, FREE, MAKER, METER, Module, Net, ONE, Put, WITHOUT_NETS,
+};
+pub use lent::{BYTE, kept};
+pub use said::{Answer, Checked, Modules, Refused, Tails, Unwritten};

@@ -1,6 +1,6 @@
 // What is printed of an answer.
 ghost use Rattle.std.specs.Prelude.{◌≡◌, Some};
-ghost use Rattle.trial.specs.Said.{refused_text, answer_text, on, off, modules_text};
+ghost use Rattle.trial.specs.Said.{refused_text, answer_text, checked_text, tails_text, unwritten_text, on, off, modules_text};
 
 use book::Refusal;
 use std::fmt;
@@ -29,6 +29,50 @@ impl<T: fmt::Display> fmt::Display for Answer<T> {
             Ok(x) => write!(f, "{x}"),
             Err(why) => write!(f, "{}", Refused(*why)),
         }
+    }
+}
+
+// What the checker says.
+#[derive(Clone, Copy)]
+pub struct Checked(pub Result<(), Refusal>);
+
+impl fmt::Display for Checked {
+    ghost output = { λ c. Some (checked_text c.0) };
+
+    fn fmt<W: fmt::Write>(&self, f: &mut fmt::Formatter<W>) -> fmt::Result {
+        match self.0 {
+            Ok(()) => write!(f, "accepted"),
+            Err(why) => write!(f, "{}", Refused(why)),
+        }
+    }
+}
+
+// Whether what lies behind the written part of lent buffers stayed marked.
+#[derive(Clone, Copy)]
+pub struct Tails(pub bool);
+
+impl fmt::Display for Tails {
+    ghost output = { λ t. Some (tails_text t.0) };
+
+    fn fmt<W: fmt::Write>(&self, f: &mut fmt::Formatter<W>) -> fmt::Result {
+        if self.0 {
+            write!(f, "tails kept")
+        } else {
+            write!(f, "a tail lost")
+        }
+    }
+}
+
+// A refusal of a call on lent buffers, and whether they stayed marked.
+#[derive(Clone, Copy)]
+pub struct Unwritten(pub Refusal, pub bool);
+
+impl fmt::Display for Unwritten {
+    ghost output = { λ u. Some (unwritten_text u.0 u.1) };
+
+    fn fmt<W: fmt::Write>(&self, f: &mut fmt::Formatter<W>) -> fmt::Result {
+        let written = if self.1 { "nothing" } else { "something" };
+        write!(f, "{} {written} written", Refused(self.0))
     }
 }
 

@@ -1,7 +1,7 @@
 // The calls, and what is printed of their answers.
 use book::Book;
 use std::fmt;
-use trial::Answer;
+use trial::{Answer, Checked};
 
 // What the reader says of a good book.
 #[derive(Clone, Copy)]
@@ -48,6 +48,6 @@ pub fn change_of(book: &[u8], side: &[u8], m: u32) -> Answer<Change> {
     Answer(side::change(book, side, m).map(Change))
 }
 
-pub fn check(book: &[u8], side: &[u8], flow: &[i32], price: u32) -> Answer<&'static str> {
-    Answer(audit::check(book, side, flow, price).map(|()| "accepted"))
+pub fn check(book: &[u8], side: &[u8], flow: &[i32], price: u32) -> Checked {
+    Checked(audit::check(book, side, flow, price))
 }

@@ -1,16 +1,6 @@
-// The cards of the table beside Bridge. A constant cannot cite a part of another, so those that differ little from it stand whole.
+// Cards that differ little from Bridge; they stand whole, since a constant cannot cite a part of another.
 use trial::Mark::{Free, Maker, Meter};
-use trial::{Card, FREE, MAKER, METER, Module, Net};
-
-pub const FAN: Card<'static> = Card {
-    modules: &[METER, FREE, MAKER],
-    nets: &[Net(1, &[0, 1, 2])],
-};
-
-pub const WITHOUT_NETS: Card<'static> = Card {
-    modules: &[METER, MAKER],
-    nets: &[],
-};
+use trial::{Card, Module, Net};
 
 // Bridge with two meters.
 pub const METERS: Card<'static> = Card {

@@ -1,8 +1,8 @@
 // The rows of the table on the checker: values, marks, and what it is lent.
 use crate::answers;
-use crate::cards::{MAKERS, METERS, WITHOUT_NETS};
+use crate::cards::{MAKERS, METERS};
 use std::io;
-use trial::{BRIDGE, Card, Put};
+use trial::{BRIDGE, Card, Edited, Put, WITHOUT_NETS};
 
 // A flow and a claimed price.
 #[derive(Clone, Copy)]
@@ -10,11 +10,11 @@ pub struct Claim<'a>(pub &'a str, pub &'a [i32], pub u32);
 
 // A side, a flow and a claimed price.
 #[derive(Clone, Copy)]
-struct Sided<'a>(&'a str, &'a [u8], &'a [i32], u32);
+struct SideClaim<'a>(&'a str, &'a [u8], &'a [i32], u32);
 
-// Bridge with numbers put over its own, cut to a length, and what is lent with it.
+// A damaged Bridge, and what is lent with it.
 #[derive(Clone, Copy)]
-struct Damaged<'a>(&'a str, usize, &'a [Put], &'a [u8], &'a [i32], u32);
+struct Damaged<'a>(Edited<'a>, &'a [u8], &'a [i32], u32);
 
 // Refusal 13: the value, the price of the side and the claimed price.
 static VALUES: [Claim<'static>; 8] = [
@@ -36,9 +36,9 @@ static VALUES: [Claim<'static>; 8] = [
     Claim("no flow, claimed price 0", &[0, 0, 0, 0, 0, 0], 0),
 ];
 
-static OTHER_SIDES: [Sided<'static>; 2] = [
-    Sided("side {0}", b"\x01", &[1, -1, 1, -1, 1, -1], 1),
-    Sided(
+static OTHER_SIDES: [SideClaim<'static>; 2] = [
+    SideClaim("side {0}", b"\x01", &[1, -1, 1, -1, 1, -1], 1),
+    SideClaim(
         "side {0}, claimed price 2",
         b"\x01",
         &[1, -1, 1, -1, 1, -1],
@@ -84,40 +84,40 @@ static MAKER_FLOWS: [Claim<'static>; 3] = [
 ];
 
 // Refusal 8: both lent buffers, before any bit of the side.
-static SHORT: [Sided<'static>; 8] = [
-    Sided("no byte", b"", &[1, -1, 1, -1, 1, -1], 1),
-    Sided("no byte and a short flow", b"", &[1, -1, 1, -1, 1], 1),
-    Sided("no byte and a broken flow", b"", &[2, -1, 1, -1, 1, -1], 1),
-    Sided("no byte and no number", b"", &[], 1),
-    Sided("side {1} and a short flow", b"\x02", &[1, -1, 1, -1, 1], 1),
-    Sided("flow short by one", b"\x03", &[1, -1, 1, -1, 1], 1),
-    Sided(
+static SHORT: [SideClaim<'static>; 8] = [
+    SideClaim("no byte", b"", &[1, -1, 1, -1, 1, -1], 1),
+    SideClaim("no byte and a short flow", b"", &[1, -1, 1, -1, 1], 1),
+    SideClaim("no byte and a broken flow", b"", &[2, -1, 1, -1, 1, -1], 1),
+    SideClaim("no byte and no number", b"", &[], 1),
+    SideClaim("side {1} and a short flow", b"\x02", &[1, -1, 1, -1, 1], 1),
+    SideClaim("flow short by one", b"\x03", &[1, -1, 1, -1, 1], 1),
+    SideClaim(
         "flow broken and short by one",
         b"\x03",
         &[2, -1, 1, -1, 1],
         1,
     ),
-    Sided("no number", b"\x03", &[], 1),
+    SideClaim("no number", b"\x03", &[], 1),
 ];
 
 // Refusal 9, and tails.
-static SIDES: [Sided<'static>; 6] = [
-    Sided("side {1}", b"\x02", &[1, -1, 1, -1, 1, -1], 1),
-    Sided("side {0, 3}", b"\x09", &[1, -1, 1, -1, 1, -1], 1),
-    Sided(
+static SIDES: [SideClaim<'static>; 6] = [
+    SideClaim("side {1}", b"\x02", &[1, -1, 1, -1, 1, -1], 1),
+    SideClaim("side {0, 3}", b"\x09", &[1, -1, 1, -1, 1, -1], 1),
+    SideClaim(
         "side {0, 1} with a spare bit set",
         b"\x13",
         &[1, -1, 1, -1, 1, -1],
         1,
     ),
-    Sided(
+    SideClaim(
         "side {1} and a broken flow",
         b"\x02",
         &[2, -1, 1, -1, 1, -1],
         1,
     ),
-    Sided("a tail of the side", b"\x03\xFF", &[1, -1, 1, -1, 1, -1], 1),
-    Sided(
+    SideClaim("a tail of the side", b"\x03\xFF", &[1, -1, 1, -1, 1, -1], 1),
+    SideClaim(
         "a tail of the flow",
         b"\x03",
         &[1, -1, 1, -1, 1, -1, 2147483647, -2147483648],
@@ -128,49 +128,49 @@ static SIDES: [Sided<'static>; 6] = [
 // Books that are refused, whatever else is lent.
 static BOOKS: [Damaged<'static>; 6] = [
     Damaged(
-        "Bridge cut short, all else good",
-        71,
-        &[],
+        Edited("Bridge cut short, all else good", 71, &[]),
         b"\x03",
         &[1, -1, 1, -1, 1, -1],
         1,
     ),
     Damaged(
-        "Bridge cut short, no byte and no number",
-        71,
-        &[],
+        Edited("Bridge cut short, no byte and no number", 71, &[]),
         b"",
         &[],
         2,
     ),
     Damaged(
-        "Bridge with area 0 of module 2 and a short flow",
-        72,
-        &[Put(40, 0)],
+        Edited(
+            "Bridge with area 0 of module 2 and a short flow",
+            72,
+            &[Put(40, 0)],
+        ),
         b"\x03",
         &[1],
         1,
     ),
     Damaged(
-        "Bridge with weight 0 of net 1 and a broken flow",
-        72,
-        &[Put(52, 0)],
+        Edited(
+            "Bridge with weight 0 of net 1 and a broken flow",
+            72,
+            &[Put(52, 0)],
+        ),
         b"\x03",
         &[2, -1, 1, -1, 1, -1],
         1,
     ),
     Damaged(
-        "Bridge with pin 5 on module 4 and a broken flow",
-        72,
-        &[Put(70, 4)],
+        Edited(
+            "Bridge with pin 5 on module 4 and a broken flow",
+            72,
+            &[Put(70, 4)],
+        ),
         b"\x03",
         &[2, -1, 1, -1, 1, -1],
         1,
     ),
     Damaged(
-        "Bridge with no meter and no number",
-        72,
-        &[Put(34, 0)],
+        Edited("Bridge with no meter and no number", 72, &[Put(34, 0)]),
         b"\x03",
         &[],
         1,
@@ -196,9 +196,9 @@ pub fn show(
 }
 
 // Bridge, with any side.
-fn show_sided(rt: &(impl Print + AllocGlobal), rows: &[Sided<'_>]) -> io::Result<()> {
+fn show_sided(rt: &(impl Print + AllocGlobal), rows: &[SideClaim<'_>]) -> io::Result<()> {
     let book = BRIDGE.book(rt.alloc())?;
-    for Sided(name, side, flow, price) in rows {
+    for SideClaim(name, side, flow, price) in rows {
         println!(rt;
             "Bridge, {name}: {}",
             answers::check(&book, side, flow, *price)
@@ -208,7 +208,7 @@ fn show_sided(rt: &(impl Print + AllocGlobal), rows: &[Sided<'_>]) -> io::Result
 }
 
 fn show_damaged(rt: &(impl Print + AllocGlobal), rows: &[Damaged<'_>]) -> io::Result<()> {
-    for Damaged(name, size, puts, side, flow, price) in rows {
+    for Damaged(Edited(name, size, puts), side, flow, price) in rows {
         let book = BRIDGE.edited(rt.alloc(), puts, *size)?;
         println!(rt; "{name}: {}", answers::check(&book, side, flow, *price))?;
     }

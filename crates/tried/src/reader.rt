@@ -1,11 +1,7 @@
 // The reader's rows of the table: Bridge with at most four numbers put over its own, and books made to size.
 use crate::answers;
 use std::io;
-use trial::{BRIDGE, Draft, Mark, Put};
-
-// The first so many bytes of Bridge with numbers put.
-#[derive(Clone, Copy)]
-struct Edited<'a>(&'a str, usize, &'a [Put]);
+use trial::{BRIDGE, Draft, Edited, Mark, Put};
 
 // A book of so many modules, nets and pins, each net with so many of the first modules.
 #[derive(Clone, Copy)]

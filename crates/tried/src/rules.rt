@@ -1,8 +1,8 @@
 // The rows of the table on the checker's two rules: that of nets (refusal 11) and that of free modules (refusal 12).
-use crate::cards::{FAN, HEAVY, LONE};
+use crate::cards::{HEAVY, LONE};
 use crate::checks::{Claim, show};
 use std::io;
-use trial::{BRIDGE, Card, FREE, MAKER, METER, Net};
+use trial::{BRIDGE, Card, FAN, FREE, MAKER, METER, Net};
 
 // Refusal 11: the numbers of a net, and its weight.
 static NETS_BRIDGE: [Claim<'static>; 10] = [

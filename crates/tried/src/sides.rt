@@ -1,8 +1,7 @@
 // The rows of the table on a given side: its price, and what a move changes.
 use crate::answers;
-use crate::cards::FAN;
 use std::io;
-use trial::{BRIDGE, Card};
+use trial::{BRIDGE, Card, FAN};
 
 // A side, and the module to be moved.
 #[derive(Clone, Copy)]

@@ -2,11 +2,9 @@
 use book::Refusal;
 use std::alloc::{AllocError, Global};
 use std::io;
-use trial::{Answer, Card, Modules, Refused};
+use trial::{BYTE, Card, Checked, Modules, Tails, Unwritten};
 
-// What a side and a flow are marked with.
-const BYTE: u8 = 0xA5;
-
+// What a flow is marked with.
 const NUMBER: i32 = 77;
 
 // From so many modules on a book is large: its far side is printed by what it lacks, and the checker, which takes an interpreter long, is left out.
@@ -24,9 +22,9 @@ struct Lent {
 }
 
 // What the checker says of a flow with a side.
-fn check(book: &[u8], side: &[u8], flow: &[i32], price: usize) -> Answer<&'static str> {
+fn check(book: &[u8], side: &[u8], flow: &[i32], price: usize) -> Checked {
     let claim = u32::try_from(price).unwrap_or(u32::MAX);
-    Answer(audit::check(book, side, flow, claim).map(|()| "accepted"))
+    Checked(audit::check(book, side, flow, claim))
 }
 
 impl Lent {
@@ -91,15 +89,8 @@ pub fn show(
             print!(rt; " price {price}")?;
             lent.print_sides(rt, book, modules, price)?;
             let kept = lent.kept(modules.div_ceil(8), pin_count(card));
-            println!(rt; "{}", if kept { " tails kept" } else { " a tail lost" })
+            println!(rt; " {}", Tails(kept))
         }
-        Err(why) => {
-            let written = if lent.kept(0, 0) {
-                "nothing"
-            } else {
-                "something"
-            };
-            println!(rt; " {} {written} written", Refused(why))
-        }
+        Err(why) => println!(rt; " {}", Unwritten(why, lent.kept(0, 0))),
     }
 }

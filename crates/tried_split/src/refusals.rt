@@ -1,15 +1,11 @@
 // The rows of the table on buffers and on refused books.
 use crate::lent::{self, Room};
 use std::io;
-use trial::{BRIDGE, Card, FREE, MAKER, METER, Net, Put};
+use trial::{BRIDGE, Card, Edited, FREE, MAKER, METER, Net, ONE, Put};
 
 // A card in buffers of these lengths.
 #[derive(Clone, Copy)]
 struct Buffers<'a>(&'a str, Card<'a>, Room);
-
-// Bridge with numbers put over its own, cut to a length.
-#[derive(Clone, Copy)]
-struct Edited<'a>(&'a str, usize, &'a [Put]);
 
 // The sides need two bytes, the flow four numbers.
 const NINE: Card<'static> = Card {
@@ -20,11 +16,6 @@ const NINE: Card<'static> = Card {
 // The flow needs no number.
 const BARE: Card<'static> = Card {
     modules: &[METER, FREE, MAKER],
-    nets: &[],
-};
-
-const ONE: Card<'static> = Card {
-    modules: &[METER],
     nets: &[],
 };
 

@@ -1,7 +1,7 @@
 // The rows of the table on small books, in buffers longer than they need.
 use crate::lent::{self, Room};
 use std::io;
-use trial::{BRIDGE, Card, FREE, MAKER, METER, Net};
+use trial::{BRIDGE, Card, FAN, FREE, MAKER, METER, Net, WITHOUT_NETS};
 
 #[derive(Clone, Copy)]
 pub struct Row<'a> {
@@ -20,10 +20,7 @@ static DESK: [Row<'static>; 2] = [
     },
     Row {
         name: "Fan",
-        card: Card {
-            modules: &[METER, FREE, MAKER],
-            nets: &[Net(1, &[0, 1, 2])],
-        },
+        card: FAN,
     },
 ];
 
@@ -31,10 +28,7 @@ static DESK: [Row<'static>; 2] = [
 static LOOSE: [Row<'static>; 9] = [
     Row {
         name: "no nets",
-        card: Card {
-            modules: &[METER, MAKER],
-            nets: &[],
-        },
+        card: WITHOUT_NETS,
     },
     Row {
         name: "no nets, maker before meter",

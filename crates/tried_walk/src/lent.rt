@@ -3,11 +3,8 @@ use crate::round::{self, Round};
 use gate::Gate;
 use std::alloc::{AllocError, Global};
 use std::io;
-use trial::{Card, Modules, Refused};
+use trial::{BYTE, Card, Modules, Tails, Unwritten};
 use walk::{Done, NotDone};
-
-// What the buffers are marked with.
-const BYTE: u8 = 0xA5;
 
 // The lengths of the buffers: bytes of the side, bytes of the rows.
 #[derive(Clone, Copy)]
@@ -63,7 +60,7 @@ pub fn show(
                 Modules::On(&lent.side, modules)
             )?;
             let kept = lent.kept(modules.div_ceil(8), rounds);
-            println!(rt; "{}", if kept { " tails kept" } else { " a tail lost" })?;
+            println!(rt; " {}", Tails(kept))?;
             lent.print_rows(rt, rounds)
         }
         Err(NotDone::Stuck(rounds)) => {
@@ -75,13 +72,6 @@ pub fn show(
             println!(rt; " ended 14 rounds {rounds} side {side}")?;
             lent.print_rows(rt, rounds)
         }
-        Err(NotDone::Refused(why)) => {
-            let written = if lent.kept(0, 0) {
-                "nothing"
-            } else {
-                "something"
-            };
-            println!(rt; " {} {written} written", Refused(why))
-        }
+        Err(NotDone::Refused(why)) => println!(rt; " {}", Unwritten(why, lent.kept(0, 0))),
     }
 }

@@ -1,11 +1,11 @@
 // The rows of the table on buffers.
 use crate::lent::{self, Room};
+use crate::rows::NONE_FREE;
 use gate::Gate::{self, Bounds, Open, Share};
 use std::io;
-use trial::Mark::{Maker, Meter};
-use trial::{BRIDGE, Card, FREE, MAKER, METER, Module, Net};
+use trial::{BRIDGE, Card, FREE, MAKER, METER, Net};
 
-// A card in buffers of these lengths. Bridge's rows need 36 bytes.
+// A card in buffers of these lengths. Bridge's rows need 36 bytes, those of none free 12.
 #[derive(Clone, Copy)]
 struct Buffers<'a> {
     name: &'a str,
@@ -15,15 +15,9 @@ struct Buffers<'a> {
 }
 
 // The side needs two bytes, the rows 60.
-const NINE: Card<'static> = Card {
+const NINE_MARKED: Card<'static> = Card {
     modules: &[METER, METER, FREE, FREE, MAKER, MAKER, FREE, MAKER, FREE],
     nets: &[Net(2, &[0, 2]), Net(1, &[2, 6, 7])],
-};
-
-// No free module; the rows need 12 bytes.
-const TWO: Card<'static> = Card {
-    modules: &[Module(3, Meter), Module(4, Maker)],
-    nets: &[Net(7, &[0, 1])],
 };
 
 // Buffers that do, and their tails.
@@ -72,7 +66,7 @@ static LONG: [Buffers<'static>; 8] = [
     },
     Buffers {
         name: "9 modules, no tails",
-        card: NINE,
+        card: NINE_MARKED,
         gate: Bounds {
             low: 5.0,
             high: 5.0,
@@ -81,7 +75,7 @@ static LONG: [Buffers<'static>; 8] = [
     },
     Buffers {
         name: "none free, rows of 12 bytes",
-        card: TWO,
+        card: NONE_FREE,
         gate: Bounds {
             low: 3.0,
             high: 3.0,
@@ -90,7 +84,7 @@ static LONG: [Buffers<'static>; 8] = [
     },
     Buffers {
         name: "none free, 14, rows of 12 bytes",
-        card: TWO,
+        card: NONE_FREE,
         gate: Bounds {
             low: 4.0,
             high: 4.0,
@@ -148,7 +142,7 @@ static SHORT: [Buffers<'static>; 9] = [
     },
     Buffers {
         name: "9 modules, side short by one",
-        card: NINE,
+        card: NINE_MARKED,
         gate: Bounds {
             low: 5.0,
             high: 5.0,
@@ -157,7 +151,7 @@ static SHORT: [Buffers<'static>; 9] = [
     },
     Buffers {
         name: "9 modules, rows short by one",
-        card: NINE,
+        card: NINE_MARKED,
         gate: Bounds {
             low: 5.0,
             high: 5.0,
@@ -166,7 +160,7 @@ static SHORT: [Buffers<'static>; 9] = [
     },
     Buffers {
         name: "none free, rows of 11 bytes",
-        card: TWO,
+        card: NONE_FREE,
         gate: Open,
         room: Room(1, 11),
     },

@@ -6,6 +6,7 @@ pub struct Round {
     price: u32,
     area: u32,
     taken: Option<u16>,
+    // A number and no enum: it is printed as the walk wrote it, and a case for each would only be turned back.
     way: u16,
 }
 

@@ -1,5 +1,5 @@
 // The rows of the table on the rounds of a walk: which module each one pins, if any is free.
-use crate::rows::{NINE, Row, show_all};
+use crate::rows::{NINE_JOINED, NONE_FREE, Row, show_all};
 use gate::Gate::{Bounds, Open};
 use std::io;
 use trial::Mark::{Free, Maker, Meter};
@@ -146,10 +146,7 @@ static MARKS: [Row<'static>; 6] = [
     },
     Row {
         name: "none free, within",
-        card: Card {
-            modules: &[Module(3, Meter), Module(4, Maker)],
-            nets: &[Net(7, &[0, 1])],
-        },
+        card: NONE_FREE,
         gate: Bounds {
             low: 3.0,
             high: 3.0,
@@ -157,10 +154,7 @@ static MARKS: [Row<'static>; 6] = [
     },
     Row {
         name: "none free, below",
-        card: Card {
-            modules: &[Module(3, Meter), Module(4, Maker)],
-            nets: &[Net(7, &[0, 1])],
-        },
+        card: NONE_FREE,
         gate: Bounds {
             low: 4.0,
             high: 7.0,
@@ -168,10 +162,7 @@ static MARKS: [Row<'static>; 6] = [
     },
     Row {
         name: "none free, above",
-        card: Card {
-            modules: &[Module(3, Meter), Module(4, Maker)],
-            nets: &[Net(7, &[0, 1])],
-        },
+        card: NONE_FREE,
         gate: Bounds {
             low: 0.0,
             high: 2.0,
@@ -191,7 +182,7 @@ static MARKS: [Row<'static>; 6] = [
 static LONG: [Row<'static>; 5] = [
     Row {
         name: "nine in a row, bounds 5 to 5",
-        card: NINE,
+        card: NINE_JOINED,
         gate: Bounds {
             low: 5.0,
             high: 5.0,
@@ -199,7 +190,7 @@ static LONG: [Row<'static>; 5] = [
     },
     Row {
         name: "nine in a row, bounds 9 to 9",
-        card: NINE,
+        card: NINE_JOINED,
         gate: Bounds {
             low: 9.0,
             high: 9.0,

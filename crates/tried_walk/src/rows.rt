@@ -24,7 +24,7 @@ pub const CHAIN: Card<'static> = Card {
 };
 
 // Nine modules in a row, areas 1, all weights 1.
-pub const NINE: Card<'static> = Card {
+pub const NINE_JOINED: Card<'static> = Card {
     modules: &[METER, FREE, FREE, FREE, FREE, FREE, FREE, FREE, MAKER],
     nets: &[
         Net(1, &[0, 1]),
@@ -36,6 +36,12 @@ pub const NINE: Card<'static> = Card {
         Net(1, &[6, 7]),
         Net(1, &[7, 8]),
     ],
+};
+
+// No free module.
+pub const NONE_FREE: Card<'static> = Card {
+    modules: &[Module(3, Meter), Module(4, Maker)],
+    nets: &[Net(7, &[0, 1])],
 };
 
 // Document 01's cases.
@@ -85,7 +91,7 @@ static WIDE: [Row<'static>; 5] = [
     },
     Row {
         name: "nine in a row, open",
-        card: NINE,
+        card: NINE_JOINED,
         gate: Open,
     },
     Row {

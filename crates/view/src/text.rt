@@ -1,4 +1,5 @@
 // Text put into lent bytes from a place on. Each function answers the place after what it put.
+// Not by `Display`: a `fmt::Write` may fail, and `Wrote` promises the text wherever there is room.
 ghost use Rattle.std.specs.Prelude.{◌≡◌, ◌++◌, ◌∷◌, [], ◌+◌, ◌/◌, ◌<◌, ◌≤◌, length};
 ghost use Rattle.side.specs.Sides.{side_of, bytes_for};
 ghost use Rattle.view.specs.Text.{decimal, module_line, module_lines, pair_line};

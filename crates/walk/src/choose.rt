@@ -60,7 +60,7 @@ impl Candidates<'_> {
         self.is_free(m) & side::inside(self.cut, m)
     }
 
-    // The lowest of the free ones.
+    // The lowest of the free ones. It and the next are a line each: one function over a test would be no plainer.
     fn lowest_free(&self) -> Option<usize>
         ensures { result ≡ lowest (free_in (marks_of self.now.marks.now) (half_of self.now.half)) (length self.now.marks.now) }
     {

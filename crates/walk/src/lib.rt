@@ -106,7 +106,7 @@ impl Turn {
     }
 }
 
-// A row that a round writes: price, area of X, and in two numbers what the round came to.
+// A row that a round writes: price, area of X, and what the round came to, which is written as two numbers.
 #[derive(Clone, Copy)]
 pub struct Row {
     pub price: u32,
@@ -114,7 +114,7 @@ pub struct Row {
     pub turn: Turn,
 }
 
-// The walk as it stands: the marks, and the near side and the row of the last round.
+// The walk as it stands: the marks, the near side and the row of the last round, and how many rounds there were. Marks are numbers, which `marks_of` reads; the arrays are of the largest size, since nothing is allocated.
 #[derive(Clone, Copy)]
 pub struct Standing {
     marks: [u8; Book::MODULES],

@@ -1,4 +1,4 @@
-// The near side for the modules now pinned.
+// The near side for the modules now pinned, in arrays of the largest size, since nothing is allocated, lent by fronts as long as the card's lists.
 ghost use Rattle.std.specs.Prelude.{◌≡◌, ◌≤◌, length};
 ghost use Rattle.line.specs.Card.{remark};
 ghost use Rattle.line.specs.Flow.{Fair};

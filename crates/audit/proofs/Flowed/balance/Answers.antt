@@ -1,4 +1,4 @@
--- `audit::balance` meets its contract, by each way out: two fresh arrays are empty tallies. Assumes nothing.
+-- `audit::Flowed::balance` meets its contract, by each way out: two fresh arrays are empty tallies. Assumes nothing.
 use Rattle.std.specs.Prelude.{ℕ, Result, Ok}
 use Rattle.book.specs.declared.Refusal.{Refusal}
 use Rattle.audit.specs.declared.Value.{Value}

@@ -1,4 +1,4 @@
--- `audit::broken_net` meets its contract: no net before `n` breaks the rule, and `first` is where the pins of net `n` begin. Assumes nothing.
+-- `audit::Flowed::broken_net` meets its contract: no net before `n` breaks the rule, and `first` is where the pins of net `n` begin. Assumes nothing.
 use mathlib.Core.Path.{refl, sym, ◌∙◌}
 use native.Mathlib.Omega.{arith}
 use Rattle.book.proofs.CardLaws.{first_pin-suc}

@@ -1,4 +1,4 @@
--- `audit::net_breaks` meets its contract: the two sums are those of the net's pins before `j`, each at most `most_sent` for each of them. Assumes nothing.
+-- `audit::Flowed::net_breaks` meets its contract: the two sums are those of the net's pins before `j`, each at most `most_sent` for each of them. Assumes nothing.
 use Prim.Native.Nat.{◌*◌, ◌≤◌}
 use mathlib.Core.Path.{◌≡◌}
 use Rattle.audit.specs.Rules.{most_sent, net_sent_to, net_taken_to}

@@ -1,4 +1,4 @@
--- `audit::rules` meets its contract, by each way out. Assumes nothing.
+-- `audit::Flowed::rules` meets its contract, by each way out. Assumes nothing.
 use mathlib.Core.Path.{sym, ◌∙◌}
 use Rattle.audit.specs.Rules.{ruled_of}
 use Rattle.audit.proofs.Flowed.rules.Goals as goal

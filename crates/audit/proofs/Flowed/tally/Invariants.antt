@@ -1,4 +1,4 @@
--- `audit::tally` meets its contract: the two lists are the tallies of the pins before `p`. Assumes nothing.
+-- `audit::Flowed::tally` meets its contract: the two lists are the tallies of the pins before `p`. Assumes nothing.
 use mathlib.Core.Path.{◌≡◌}
 use lib.ListN.{length}
 use Rattle.line.specs.Flow.{sent, taken}

@@ -1,4 +1,4 @@
--- `audit::value_of` meets its contract: the two sums are those of the meter modules' pins before `p`, each at most `most_sent` for each of them. Assumes nothing.
+-- `audit::Flowed::value` meets its contract: the two sums are those of the meter modules' pins before `p`, each at most `most_sent` for each of them. Assumes nothing.
 use Prim.Native.Nat.{◌*◌, ◌≤◌}
 use mathlib.Core.Path.{◌≡◌}
 use Rattle.line.specs.Flow.{meters}

@@ -27,4 +27,4 @@ climb_on-requires c =
     let args = c.args in
     let b = args.board.now in
     let net-sums = c.net_sums in
-    (pre.0, steady_of b.first.now b.mods.now b.weight.now b.mark.now pre.0.laid (heavy_of b) args.flow.now pre.3 pre.4 _ (net-sums.auto.sums ∙ pre.2) (record { sum = λ e l. net-sums.ensures.sum e (omega (arith, net-sums.auto.sums)) }), record { how = c.fill.auto.self ∙ pre.1.how; seen = pre.1.seen }, no_way c.fill.new.self (length args.how.now) (c.fill.ensures.after (λ _ e. e)))
+    (steady_of b.first.now b.mods.now b.weight.now b.mark.now pre.0.laid (heavy_of b) args.flow.now pre.3 pre.4 _ (net-sums.auto.sums ∙ pre.2) (record { sum = λ e l. net-sums.ensures.sum e (omega (arith, net-sums.auto.sums)) }), record { how = c.fill.auto.self ∙ pre.1.how; seen = pre.1.seen }, no_way c.fill.new.self (length args.how.now) (c.fill.ensures.after (λ _ e. e)))

@@ -5,8 +5,8 @@ use Rattle.climb.proofs.climb.climb_on.Goals as goal
 
 pub invariant_of-now : goal.invariant_of-now
 invariant_of-now c =
-    let b = c.args.board.now in
+    let b = c.args.land.now.board in
     record {
-      nets = c.loop.invariant.0.sums.len ∙ (card_made b.first.now b.mods.now b.weight.now b.mark.now c.requires.0.laid).nets;
+      nets = c.loop.invariant.0.sums.len ∙ (card_made b.first.now b.mods.now b.weight.now b.mark.now c.args.land.now.guided.laid).nets;
       pins = c.loop.invariant.0.flows;
     }

@@ -1,38 +1,25 @@
 -- The flow stays steady and the way a thread, of which `u` is the end.
-use Rattle.std.proofs.Common.{length, ◌∙◌, arith}
-use lib.ListN.{length-set}
-use Rattle.climb.proofs.Routes.{thread_level}
-use Rattle.climb.proofs.Threads.{thread_start, thread_end, tip_below}
-use Rattle.climb.specs.Climb.{Sized}
+use Rattle.std.proofs.Common.{length, arith}
+use Rattle.climb.proofs.Threads.{thread_start, thread_end}
 use Rattle.climb.proofs.climb.try_meter.Goals as goal
-use Rattle.climb.proofs.climb.try_meter.Goals.{in-Some+then-board-u-eq2, in-Some+else-board-u-eq2, in_default+else-board-u-eq1}
+use Rattle.climb.proofs.climb.try_meter.Goals.{in-Some, in_default+else-land-u-eq1}
 
 pub loop-init : goal.loop-init
 loop-init c =
     let args = c.args in
     let pre = c.requires in
-    (pre.1, thread_start args.board.now args.how.now args.seen.now args.s c.pack.result pre.3 pre.2.how pre.4 pre.5 (omega (arith, c.pack.ensures)), record { how = length-set args.how.now args.s c.pack.result ∙ pre.2.how; seen = pre.2.seen })
-
-pub onward-step-requires : goal.onward-step-requires
-onward-step-requires c =
-    let pre = c.requires in
-    let args = c.args in
-    let loop = c.loop in
-    (pre.0, thread_level args.board.now pre.0 loop.invariant.1 loop.sums loop.flow loop.invariant.0, loop.invariant.2.how, loop.invariant.2.seen, tip_below loop.invariant.1)
+    (pre.0, (thread_start args.land.now.board args.how.now args.seen.now args.s c.pack.result pre.2 pre.1.how pre.3 pre.4 (omega (arith, c.pack.ensures)), pre.1.seen))
 
 pub loop-preserved : goal.loop-preserved
 loop-preserved c =
-    let loop = c.loop in
-    let after = c.match-step in
-    let sizes : Sized c.args.board.now.mark.now c.args.board.now.weight.now after.how after.seen = record { how = after.auto.how ∙ loop.invariant.2.how; seen = after.auto.seen ∙ loop.invariant.2.seen } in
-    elim after.branch [
-      | in-Some+then-board-u-eq2 w ↦ rw (w.sums-is, w.flow-is, w.how-is, w.seen-is, w.u-is) (w.deliver-u.ensures.0, w.deliver-u.ensures.1, rw (w.how-is, w.seen-is) at sizes)
-      | in-Some+else-board-u-eq2 w ↦ rw (w.sums-is, w.flow-is, w.how-is, w.seen-is, w.u-is) (loop.invariant.0, w.enter-u.ensures, rw (w.how-is, w.seen-is) at sizes)
-      | in_default+else-board-u-eq1 w ↦ rw (w.sums-is, w.flow-is, w.how-is, w.seen-is, w.u-is) (loop.invariant.0, w.leave-u.ensures.0, rw (w.how-is, w.seen-is) at sizes)
+    let steady = c.loop.invariant.0 in
+    elim c.match-step.branch [
+      | in-Some w ↦ rw (w.sums-is, w.flow-is, w.how-is, w.seen-is, w.u-is) w.deliver-u.ensures
+      | in_default+else-land-u-eq1 w ↦ rw (w.sums-is, w.flow-is, w.how-is, w.seen-is, w.u-is) (steady, w.leave-u.ensures.0)
     ]
 
 pub returns : goal.returns
 returns c =
-    let b = c.args.board.now in
+    let b = c.args.land.now.board in
     let back = c.back-end in
-    (c.loop.invariant.0, thread_end b.mods.now b.nets.now b.mark.now back.new.how back.new.seen (length b.weight.now) back.result back.ensures.0 back.ensures.1)
+    (c.loop.invariant.0, thread_end b.mods.now b.nets.now b.mark.now back.new.how back.new.seen (length b.weight.now) back.result back.ensures.0.0 back.ensures.1)

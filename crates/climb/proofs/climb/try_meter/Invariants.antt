@@ -1,10 +1,7 @@
 -- The flow stays steady and the way a thread, of which `u` is the end.
-use Rattle.climb.specs.Climb.{Thread, Sized}
-use Rattle.std.proofs.Common.{length}
-use Rattle.flow.specs.Raise.{Steady}
-use Rattle.flow.specs.Board.{board_card}
+use Rattle.climb.specs.Climb.{WayTo, SteadyOn}
 use Rattle.climb.proofs.climb.try_meter.Given as goal
 
 abbrev pub invariant-loop : goal.invariant-loop
 invariant-loop l =
-    Steady (board_card l.board) l.board.mods.now l.sums l.flow × Thread l.board.mods.now l.board.nets.now l.board.mark.now l.how l.seen (length l.board.weight.now) l.u × Sized l.board.mark.now l.board.weight.now l.how l.seen
+    SteadyOn l.land.board l.sums l.flow × WayTo l.land.board l.how l.seen l.u

@@ -12,7 +12,7 @@ returns-in_err-step-clause-kept c = put_back c.args.how.now c.args.v
 pub only_to-requires : goal.only_to-requires
 only_to-requires c =
     let args = c.args in
-    let u-is = c.from-u.ensures ∙ ap (λ (i : ℕ). get_or args.board.now.mods.now i 0) c.left_pin.ensures in
+    let u-is = c.from-u.ensures ∙ ap (λ (i : ℕ). get_or args.load.now.land.now.board.mods.now i 0) c.left_pin.ensures in
     let step = rw c.in_ok-step.was at c.widest-step.ensures in
     rw put_back (rw (← c.rank_of-rank.ensures, ← u-is) step)
 

@@ -2,12 +2,12 @@
 use mathlib.Core.Path.{◌≡◌}
 use lib.ListN.{length, get_or}
 use Rattle.flow.specs.Search.{rank}
-use Rattle.climb.specs.Climb.{Thread}
+use Rattle.climb.specs.Climb.{WayTo}
 use Rattle.climb.proofs.ways.back.Given as goal
 
 abbrev pub invariant-loop-u : goal.invariant-loop-u
 invariant-loop-u l =
-    Thread l.board.mods.now l.board.nets.now l.board.mark.now l.how l.seen (length l.board.weight.now) l.u × (length l.how ≡ length l.initial.how) × (length l.seen ≡ length l.initial.seen)
+    WayTo l.board l.how l.seen l.u × (length l.how ≡ length l.initial.how)
 
 abbrev pub decreases-loop-u : goal.decreases-loop-u
 decreases-loop-u l =

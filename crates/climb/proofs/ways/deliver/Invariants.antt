@@ -1,10 +1,7 @@
 -- Before each push the flow is steady and the way ends at `z`.
-use Rattle.std.proofs.Common.{◌≡◌, length}
-use Rattle.climb.specs.Climb.{Thread}
-use Rattle.flow.specs.Raise.{Steady}
-use Rattle.flow.specs.Board.{board_card}
+use Rattle.climb.specs.Climb.{WayTo, SteadyOn}
 use Rattle.climb.proofs.ways.deliver.Given as goal
 
 abbrev pub invariant-loop : goal.invariant-loop
 invariant-loop l =
-    Steady (board_card l.board) l.board.mods.now l.sums l.flow × Thread l.board.mods.now l.board.nets.now l.board.mark.now l.how l.seen (length l.board.weight.now) l.z × (length l.seen ≡ length l.board.weight.now)
+    SteadyOn l.land.board l.sums l.flow × WayTo l.land.board l.how l.seen l.z

@@ -14,11 +14,14 @@ returns c =
     let pre = c.requires in
     let a = c.left_pin-a in
     let to = c.from.ensures ∙ ap (λ (i : ℕ). get_or b.mods.now i 0) a.ensures in (
-      elim c.if-eq.branch [
-        | then-eq w ↦
-            let room : kind (get_or args.how.now args.u 0) ≡ 0 = search rules in
-            thread_leave_room b.mods.now b.nets.now b.mark.now args.how.now args.seen.now count args.u pre.0 pre.1 to (w.from-n.ensures ∙ ap (λ (i : ℕ). get_or b.nets.now i 0) a.ensures) w.seen-is room
-        | else-eq w ↦ thread_leave_undo b.mods.now b.nets.now b.mark.now args.how.now args.seen.now count args.u pre.0 pre.1 to w.seen-is
-      ],
-      leave_lower b.mods.now b.nets.now b.mark.now args.how.now args.seen.now count args.u pre.0 pre.1 to,
+      (
+        elim c.if-eq.branch [
+          | then-eq w ↦
+              let room : kind (get_or args.how.now args.u 0) ≡ 0 = search rules in
+              thread_leave_room b.mods.now b.nets.now b.mark.now args.how.now args.seen.now count args.u pre.0.0 pre.1 to (w.from-n.ensures ∙ ap (λ (i : ℕ). get_or b.nets.now i 0) a.ensures) w.seen-is room
+          | else-eq w ↦ thread_leave_undo b.mods.now b.nets.now b.mark.now args.how.now args.seen.now count args.u pre.0.0 pre.1 to w.seen-is
+        ],
+        c.if-eq.auto.seen ∙ pre.0.1,
+      ),
+      leave_lower b.mods.now b.nets.now b.mark.now args.how.now args.seen.now count args.u pre.0.0 pre.1 to,
     )

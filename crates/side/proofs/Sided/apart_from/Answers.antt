@@ -1,4 +1,4 @@
--- `side::apart_from` meets its contract: each flag tells of the pins of net n before pin `j`. Assumes nothing.
+-- `side::Sided::apart_from` meets its contract: each flag tells of the pins of net n before pin `j`. Assumes nothing.
 use Prim.Native.Nat.{ℕ, ◌<◌}
 use mathlib.Core.Path.{◌≡◌, sym, ap, ap₂, ◌∙◌}
 use mathlib.Core.Bool.{Bool, ◌&&◌, ◌||◌, not}

@@ -1,4 +1,4 @@
--- `side::apart_from` meets its contract: each flag tells of the pins of net n before pin `j`. Assumes nothing.
+-- `side::Sided::apart_from` meets its contract: each flag tells of the pins of net n before pin `j`. Assumes nothing.
 use mathlib.Core.Path.{◌≡◌}
 use lib.ListN.{take}
 use Rattle.line.specs.Card.{outside, both, touches}

@@ -1,4 +1,4 @@
--- `side::area` meets its contract: `sum` is the area of the modules before `m`. Assumes nothing.
+-- `side::Sided::area` meets its contract: `sum` is the area of the modules before `m`. Assumes nothing.
 use Prim.Native.Nat.{◌*◌, ◌≤◌}
 use mathlib.Core.Path.{◌≡◌}
 use Rattle.line.specs.Card.{area_to}

@@ -1,4 +1,4 @@
--- `side::area_at` meets its contract, by each way out. Assumes nothing.
+-- `side::Sided::area_at` meets its contract, by each way out. Assumes nothing.
 use mathlib.Core.Path.{◌≡◌, sym, ◌∙◌}
 use mathlib.Core.Bool.{true, false}
 use native.Mathlib.Omega.{arith}

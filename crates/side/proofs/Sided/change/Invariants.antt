@@ -1,4 +1,4 @@
--- `side::change_of` meets its contract. The loop's invariant: over the nets before `n`, the price after the move with what is lost is the price before with
+-- `side::Sided::change` meets its contract. The loop's invariant: over the nets before `n`, the price after the move with what is lost is the price before with
 -- what is gained. Assumes nothing.
 use Prim.Native.Nat.{◌+◌, ◌*◌, ◌≤◌}
 use mathlib.Core.Path.{◌≡◌}

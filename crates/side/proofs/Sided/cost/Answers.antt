@@ -1,4 +1,4 @@
--- `side::cost` meets its contract. Assumes nothing.
+-- `side::Sided::cost` meets its contract. Assumes nothing.
 use mathlib.Core.Path.{ap, ◌∙◌}
 use mathlib.Core.Bool.{Bool, cond}
 use Rattle.line.specs.Card.{cost}

@@ -1,4 +1,4 @@
--- `side::count` meets its contract: the ones of all the bytes, less the spare bits, which add nothing. Assumes nothing.
+-- `side::Sided::count` meets its contract: the ones of all the bytes, less the spare bits, which add nothing. Assumes nothing.
 use mathlib.Core.Path.{sym, ap, ◌∙◌}
 use Prim.Native.Nat.{ℕ, ◌*◌, ◌≤◌}
 use Rattle.line.specs.Card.{count_to}

@@ -1,4 +1,4 @@
--- `side::crosses` meets its contract: `on` and `off` say whether a pin of net n before pin `j` is on the side, and off it. Assumes nothing.
+-- `side::Sided::crosses` meets its contract: `on` and `off` say whether a pin of net n before pin `j` is on the side, and off it. Assumes nothing.
 use mathlib.Core.Path.{◌≡◌}
 use lib.ListN.{take}
 use Rattle.line.specs.Card.{outside, touches}

@@ -1,4 +1,4 @@
--- `side::is_good` meets its contract. Assumes nothing.
+-- `side::Sided::is_good` meets its contract. Assumes nothing.
 use Rattle.side.specs.Given.{is_good}
 use Rattle.side.proofs.Sided.is_good.Goals as goal
 

@@ -1,4 +1,4 @@
--- `side::price_of` meets its contract: `sum` is the price of the nets before `n`, and `first` the place of the first pin of net `n`. Assumes nothing.
+-- `side::Sided::price` meets its contract: `sum` is the price of the nets before `n`, and `first` the place of the first pin of net `n`. Assumes nothing.
 use Prim.Native.Nat.{ℕ, ◌+◌, ◌<◌}
 use mathlib.Core.Path.{◌≡◌, refl, sym, ap, ap₂, ◌∙◌}
 use lib.ListN.{take}

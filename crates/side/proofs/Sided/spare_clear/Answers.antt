@@ -1,4 +1,4 @@
--- `side::spare_clear` meets its contract: each way out knows whether the modules fill their bytes. Assumes nothing.
+-- `side::Sided::spare_clear` meets its contract: each way out knows whether the modules fill their bytes. Assumes nothing.
 use borrow.Author.Tests.{eq-eqb, ne_eqb}
 use mathlib.Core.Path.{sym, ap, ◌∙◌}
 use Prim.Native.Nat.{ℕ, ◌%◌}

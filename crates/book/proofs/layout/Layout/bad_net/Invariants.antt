@@ -1,4 +1,4 @@
--- `book::bad_net` meets its contract: no net before `n` is bad, and `sum` is where the pins of net `n` begin. Assumes nothing.
+-- `book::Layout::bad_net` meets its contract: no net before `n` is bad, and `sum` is where the pins of net `n` begin. Assumes nothing.
 use Rattle.std.specs.Prelude.{None}
 use Prim.Native.Nat.{◌≤◌, ◌*◌}
 use mathlib.Core.Path.{◌≡◌}

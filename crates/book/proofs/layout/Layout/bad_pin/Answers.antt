@@ -1,4 +1,4 @@
--- `book::bad_pin` meets its contract: no net before `n` has a bad pin, none of net `n` before `j` is bad, and `p` is the index of pin `j`
+-- `book::Layout::bad_pin` meets its contract: no net before `n` has a bad pin, none of net `n` before `j` is bad, and `p` is the index of pin `j`
 -- of net `n`. Assumes nothing.
 use Rattle.std.specs.Prelude.{Some}
 use Prim.Native.Nat.{◌<◌}
