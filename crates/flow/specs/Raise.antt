@@ -6,7 +6,7 @@ use Rattle.line.proofs.Ways.{plainly}
 use Rattle.line.proofs.Index.{net_at}
 use Rattle.line.proofs.Path.{AllOf, Sound, Spare, Pairwise, LeadsBack}
 use Rattle.line.proofs.Tree.{walk}
-use Rattle.flow.specs.Search.{In, Tables}
+use Rattle.flow.specs.Search.{In}
 use Rattle.flow.specs.Cards.{Laid, Sums, up_of}
 use Rattle.flow.specs.Push.{Ground}
 
@@ -83,17 +83,6 @@ pub record Summable (fs : List ℕ) (fl : List ℤ) (N : ℕ) : Type 0 where
 -- the arrays of a board and the room for the search: what `raise` and `far` ask beside the board
 pub record Ready (fs ms ws mk q w sn sm : List ℕ) : Type 0 where
   pub laid : Laid fs ms ws mk
-  pub modules : length mk < 65535
-  pub queue : length q ≡ length mk
-  pub how : length w ≡ length mk
-  pub seen : length sn ≡ length ws
-  pub sums : length sm ≡ length ws
-
--- the same with what a board says of its arrays
-pub record Engine (fs ms ws nt at pl mk q w sn sm : List ℕ) : Type 0 where
-  pub laid : Laid fs ms ws mk
-  pub tables : Tables fs ms ws nt at pl (length mk)
-  pub pins : length ms < 16384
   pub modules : length mk < 65535
   pub queue : length q ≡ length mk
   pub how : length w ≡ length mk
