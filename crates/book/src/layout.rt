@@ -162,17 +162,17 @@ impl<'a> Layout<'a> {
         ensures { result ≡ check5 self.entry.bytes.now }
     {
         let mut p = 0;
-        let mut bad = None;
-        'nets: for n in 0..self.nets() {
-            for j in 0..self.pin_count(n) {
-                if self.pin_is_bad(p, j) {
-                    bad = Some(p);
-                    break 'nets;
+        'nets: {
+            for n in 0..self.nets() {
+                for j in 0..self.pin_count(n) {
+                    if self.pin_is_bad(p, j) {
+                        break 'nets Some(p);
+                    }
+                    p += 1;
                 }
-                p += 1;
             }
+            None
         }
-        bad
     }
 
     // Check 6, of one mark: no module has it.

@@ -157,11 +157,13 @@ pub fn u32_at(book: &[u8], i: usize) -> usize
 }
 
 // Checks 1 to 6, on any bytes.
+#[tactic(auto, using(crate::proofs::Laid::laid_facts))]
 pub fn read(book: &[u8]) -> Result<Book, Refusal>
     ensures { result ≡ read_of book.now }
 {
-    let Some(layout) = Layout::new(book) else {
+    if !checks::is_laid(book) {
         return Err(Refusal::Layout);
-    };
+    }
+    let layout = Layout { bytes: book };
     layout.read()
 }

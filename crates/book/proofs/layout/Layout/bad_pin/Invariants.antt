@@ -9,7 +9,7 @@ use Rattle.book.specs.Checks.{bad_pin_of, bad_pins}
 use Rattle.book.proofs.layout.Layout.bad_pin.Given as goal
 
 abbrev pub invariant-loop-j : goal.invariant-loop-j
-invariant-loop-j l = (l.bad ≡ None) × (l.p ≡ first_pin l.self.bytes.now l.n + l.j) × (lowest (bad_pin_of l.self.bytes.now l.n) l.j ≡ None)
+invariant-loop-j l = (l.p ≡ first_pin l.self.bytes.now l.n + l.j) × (lowest (bad_pin_of l.self.bytes.now l.n) l.j ≡ None)
 
-abbrev pub invariant-nets : goal.invariant-nets
-invariant-nets l = (l.bad ≡ None) × (l.p ≡ first_pin l.self.bytes.now l.n) × (first (bad_pins l.self.bytes.now) l.n ≡ None)
+abbrev pub invariant-loop-n : goal.invariant-loop-n
+invariant-loop-n l = (l.p ≡ first_pin l.self.bytes.now l.n) × (first (bad_pins l.self.bytes.now) l.n ≡ None)
