@@ -2,13 +2,15 @@
 #![tactic(auto, using(crate::proofs::Flows::lent_flow, crate::proofs::Flows::sound_netlist))]
 
 ghost use Rattle.std.specs.Prelude.{◌≡◌, cond, ℕ, ◌+◌, ◌*◌, ◌≤◌, ◌<◌, length, get_or, set, ℤ, true, false, IfOk, IfErr};
+ghost use Rattle.line.specs.Card.{price};
 ghost use Rattle.line.specs.Flow.{sent, taken, meters};
 ghost use Rattle.book.specs.Format.{modules, pins};
 ghost use Rattle.book.specs.First.{lowest};
 ghost use Rattle.book.specs.Checks.{most_pins};
 ghost use Rattle.book.specs.declared.Refusal.TheVariants.{Buffer};
-ghost use Rattle.book.specs.Cards.{card_of};
+ghost use Rattle.book.specs.Cards.{card_of, nets_of};
 ghost use Rattle.side.specs.Given.{AtNet};
+ghost use Rattle.side.specs.Sides.{side_of};
 ghost use Rattle.audit.specs.Checker.{agree, is_short_flow, judged, checked_sound, checked_of};
 ghost use Rattle.audit.specs.Rules.{most_sent, sent_at, taken_at, bad_net_flow, check11, balance_of, ruled_of, value_sent, value_taken};
 ghost use Rattle.audit.specs.Tallies.{Empty, Tally, Small, uneven, meters_to};
@@ -200,12 +202,12 @@ impl<'a> Flowed<'a> {
         self.balance()
     }
 
-    // Checks 11 to 13, where the price of the side and the claimed price are given.
-    fn judge(self, price: usize, claim: u32) -> Result<(), Refusal>
-        ensures { result ≡ judged (ruled_of self.entry.netlist.bytes.now self.entry.flow.now) price claim }
+    // Checks 11 to 13 beside a side, which is priced only where the rules pass.
+    fn judge(self, sided: Sided<'_>, claim: u32) -> Result<(), Refusal>
+        ensures { result ≡ judged (ruled_of self.entry.netlist.bytes.now self.entry.flow.now) (price (nets_of sided.entry.netlist.bytes.now) (side_of sided.entry.bits.now)) claim }
     {
         let value = self.rules()?;
-        if !agree(value.sent, value.taken, price, claim) {
+        if !agree(value.sent, value.taken, sided.price(), claim) {
             return Err(Refusal::Values);
         }
         Ok(())
@@ -236,7 +238,7 @@ fn check_lent(netlist: Netlist<'_>, side: &[u8], flow: &[i32], claim: u32) -> Re
     if !sided.is_good() {
         return Err(Refusal::Side);
     }
-    flowed.judge(sided.price(), claim)
+    flowed.judge(sided, claim)
 }
 
 // The checker, on any bytes and any numbers: checks 1 to 6, 8, 9 and 11 to 13. Nothing is written.

@@ -38,6 +38,6 @@ returns c =
     let f = c.in_ok-flowed.ensures.good in
     let g = c.in_ok-sided.ensures.good in
     let good = subst (λ (b : Bor (List ℕ)). is_good b.now c.args.side.now ≡ true) g.0 (subst (λ (b : Bor (List ℕ)). is_good c.in_ok-sided.sided.netlist.bytes.now b.now ≡ true) g.1 (sym c.is_good.ensures ∙ c.if-not-is_good.false)) in
-    let e = c.price.ensures.0 ∙ ap₂ (λ (b x : Bor (List ℕ)). price (nets_of b.now) (side_of x.now)) g.0 g.1 in
+    let e = ap₂ (λ (b x : Bor (List ℕ)). price (nets_of b.now) (side_of x.now)) g.0 g.1 in
     let r = ap₂ (λ (b : Bor (List ℕ)) (x : Bor (List ℤ)). ruled_of b.now x.now) f.0 f.1 in
     c.judge.ensures ∙ ap₂ (λ q p. judged q p c.args.claim) r e ∙ both_good _ _ _ _ f.2 g.2 good

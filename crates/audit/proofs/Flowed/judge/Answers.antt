@@ -9,8 +9,8 @@ returns-in_err-value c = let p = err_from_is_err_and c.from_residual.result c.fr
 
 pub returns : goal.returns
 returns c =
-    rw (sym c.rules.ensures ∙ c.in_ok-value.was, sym c.agree.ensures ∙ c.if-not-agree.false)
+    rw (sym c.rules.ensures ∙ c.in_ok-value.was, sym c.price.ensures.0, sym c.agree.ensures ∙ c.if-not-agree.false)
 
 pub returns-then-not-agree : goal.returns-then-not-agree
 returns-then-not-agree c =
-    rw (sym c.rules.ensures ∙ c.in_ok-value.was, sym c.agree.ensures ∙ c.if-not-agree.true)
+    rw (sym c.rules.ensures ∙ c.in_ok-value.was, sym c.price.ensures.0, sym c.agree.ensures ∙ c.if-not-agree.true)
