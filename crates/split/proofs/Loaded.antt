@@ -28,12 +28,6 @@ marks_of s = listed (mark s) (modules s)
 longs : (xs : List ℕ) (f : ℕ → ℕ) (k : ℕ) → xs ≡ listed f k → length xs ≡ k
 longs xs f k e = ap (λ (l : List ℕ). length l) e ∙ length_listed f k
 
-pub front_listed : (f : ℕ → ℕ) (k : ℕ) (xs r : List ℕ) → xs ≡ listed f k → take k (xs ++ r) ≡ listed f k
-front_listed f k xs r e = take_at xs r k (longs xs f k e) ∙ e
-
-pub front_light : (s xs r : List ℕ) → xs ≡ listed (weight s) (nets s) → ((n : ℕ) → get_or xs n 0 < 65536) → Light s (xs ++ r)
-front_light s xs r e h n = rw (take_at xs r (nets s) (longs xs (weight s) (nets s) e)) (h n)
-
 module _ (s : List ℕ) (h : Sound s) where
   long : length (marks_of s) ≡ modules s
   long = length_listed (mark s) (modules s)
@@ -107,8 +101,9 @@ module _ (s : List ℕ) (h : Sound s) where
         }
 
     -- at the fronts of their arrays
-    pub tables_built : (nt' at' pl' a' b' d' n' m' p' : List ℕ) → length nt' ≡ length nt → length at' ≡ length at → length pl' ≡ length pl → Built fs ms ws nt at pl nt' at' pl' →
-        Tabled s (fs ++ a') (ms ++ b') (ws ++ d') (nt' ++ n') (at' ++ m') (pl' ++ p')
-    tables_built nt' at' pl' a' b' d' n' m' p' x y z t =
-        rw (take_at fs a' (nets s + 1) (longs fs _ _ a), take_at ms b' (pins s) (longs ms _ _ b), take_at ws d' (nets s) (longs ws _ _ d), take_at nt' n' (pins s) (x ∙ n), take_at at' m' (modules s + 1) (y ∙ m), take_at pl' p' (pins s) (z ∙ p))
+    pub tables_built : (fa ma wa nt' at' pl' n' m' p' : List ℕ) → take (nets s + 1) fa ≡ fs → take (pins s) ma ≡ ms → take (nets s) wa ≡ ws →
+        length nt' ≡ length nt → length at' ≡ length at → length pl' ≡ length pl → Built fs ms ws nt at pl nt' at' pl' →
+        Tabled s fa ma wa (nt' ++ n') (at' ++ m') (pl' ++ p')
+    tables_built fa ma wa nt' at' pl' n' m' p' e f g x y z t =
+        rw (e, f, g, take_at nt' n' (pins s) (x ∙ n), take_at at' m' (modules s + 1) (y ∙ m), take_at pl' p' (pins s) (z ∙ p))
         (subst (λ (k : ℕ). Tables fs ms ws nt' at' pl' k) long (t (marks_of s) buildable))

@@ -11,10 +11,9 @@ use book::Book;
 use book::netlist::Netlist;
 use flow::board::Board;
 
-// The arrays, each with what a board lends at its front, beside the netlist that they are of.
+// The arrays, each with what a board lends at its front.
 #[derive(Drop)]
-pub struct Numbers<'a> {
-    pub netlist: Netlist<'a>,
+struct Arrays {
     first: [u16; Book::NETS + 1],
     mods: [u16; Book::PINS],
     weight: [u16; Book::NETS],
@@ -22,13 +21,81 @@ pub struct Numbers<'a> {
     at: [u16; Book::MODULES + 1],
     pins: [u16; Book::PINS],
     mark: [u8; Book::MODULES],
-    ghost firsts: { Firsts netlist.bytes.now first },
-    ghost modules: { Mods netlist.bytes.now mods },
-    ghost weights: { Weights netlist.bytes.now weight },
-    ghost marks: { Marks netlist.bytes.now mark },
+}
+
+impl Arrays {
+    // Before they are filled. All zeros and in one piece, so that each is cleared once and filled where it stands.
+    const NEW: Self = Arrays {
+        first: [0; Book::NETS + 1],
+        mods: [0; Book::PINS],
+        weight: [0; Book::NETS],
+        nets: [0; Book::PINS],
+        at: [0; Book::MODULES + 1],
+        pins: [0; Book::PINS],
+        mark: [0; Book::MODULES],
+    };
+}
+
+// A book's numbers at the fronts of its arrays. Inlined, this and the next would have the arrays cleared and copied twice.
+#[inline(never)]
+fn load_fronts(
+    netlist: Netlist<'_>,
+    first: &mut [u16; Book::NETS + 1],
+    mods: &mut [u16; Book::PINS],
+    weight: &mut [u16; Book::NETS],
+    mark: &mut [u8; Book::MODULES],
+)
+    ensures firsts { Firsts netlist.entry.bytes.now first.new }
+    ensures modules { Mods netlist.entry.bytes.now mods.new }
+    ensures weights { Weights netlist.entry.bytes.now weight.new }
+    ensures marks { Marks netlist.entry.bytes.now mark.new }
+    ensures light { Light netlist.entry.bytes.now weight.new }
+{
+    let n = netlist.nets();
+    load::firsts(netlist, &mut first[..n + 1]);
+    load::mods(netlist, &mut mods[..netlist.pins()]);
+    load::weights(netlist, &mut weight[..n]);
+    load::marks(netlist, &mut mark[..netlist.modules()]);
+}
+
+// The tables of its pins at the fronts of theirs.
+#[inline(never)]
+fn build_fronts(
+    netlist: Netlist<'_>,
+    first: &[u16; Book::NETS + 1],
+    mods: &[u16; Book::PINS],
+    weight: &[u16; Book::NETS],
+    nets: &mut [u16; Book::PINS],
+    at: &mut [u16; Book::MODULES + 1],
+    pins: &mut [u16; Book::PINS],
+)
+    requires { Firsts netlist.bytes.now first.now × Mods netlist.bytes.now mods.now × Weights netlist.bytes.now weight.now }
+    ensures { ∥ Tabled netlist.entry.bytes.now first.now mods.now weight.now nets.new at.new pins.new ∥₁ }
+{
+    let n = netlist.nets();
+    let p = netlist.pins();
+    flow::tables::build(
+        &first[..n + 1],
+        &mods[..p],
+        &weight[..n],
+        &mut nets[..p],
+        &mut at[..netlist.modules() + 1],
+        &mut pins[..p],
+    );
+}
+
+// The arrays beside the netlist that they are of.
+#[derive(Drop)]
+pub struct Numbers<'a> {
+    pub netlist: Netlist<'a>,
+    arrays: Arrays,
+    ghost firsts: { Firsts netlist.bytes.now arrays.first },
+    ghost modules: { Mods netlist.bytes.now arrays.mods },
+    ghost weights: { Weights netlist.bytes.now arrays.weight },
+    ghost marks: { Marks netlist.bytes.now arrays.mark },
     // True of any weight, as in a board.
-    ghost light: { Light netlist.bytes.now weight },
-    ghost tables: { ∥ Tabled netlist.bytes.now first mods weight nets at pins ∥₁ },
+    ghost light: { Light netlist.bytes.now arrays.weight },
+    ghost tables: { ∥ Tabled netlist.bytes.now arrays.first arrays.mods arrays.weight arrays.nets arrays.at arrays.pins ∥₁ },
 }
 
 impl<'a> Numbers<'a> {
@@ -36,48 +103,31 @@ impl<'a> Numbers<'a> {
     pub fn of(netlist: Netlist<'a>) -> Numbers<'a>
         ensures { result.netlist.bytes ≡ netlist.entry.bytes }
     {
-        let m = netlist.modules();
-        let n = netlist.nets();
-        let p = netlist.pins();
-        let mut first = [0; Book::NETS + 1];
-        let firsts = &mut first[..n + 1];
-        load::firsts(netlist, &mut *firsts);
-        let mut mods = [0; Book::PINS];
-        let pin_mods = &mut mods[..p];
-        load::mods(netlist, &mut *pin_mods);
-        let mut weight = [0; Book::NETS];
-        let weights = &mut weight[..n];
-        load::weights(netlist, &mut *weights);
-        let mut mark = [0; Book::MODULES];
-        load::marks(netlist, &mut mark[..m]);
-        let mut nets = [0; Book::PINS];
-        let mut at = [0; Book::MODULES + 1];
-        let mut pins = [0; Book::PINS];
-        flow::tables::build(
-            &*firsts,
-            &*pin_mods,
-            &*weights,
-            &mut nets[..p],
-            &mut at[..m + 1],
-            &mut pins[..p],
-        );
-        Numbers {
+        let mut arrays = Arrays::NEW;
+        load_fronts(
             netlist,
-            first,
-            mods,
-            weight,
-            nets,
-            at,
-            pins,
-            mark,
-        }
+            &mut arrays.first,
+            &mut arrays.mods,
+            &mut arrays.weight,
+            &mut arrays.mark,
+        );
+        build_fronts(
+            netlist,
+            &arrays.first,
+            &arrays.mods,
+            &arrays.weight,
+            &mut arrays.nets,
+            &mut arrays.at,
+            &mut arrays.pins,
+        );
+        Numbers { netlist, arrays }
     }
 
     // The book as a board.
     pub fn board(&self) -> Board<'_>
         ensures { Lends self.now.netlist.bytes.now result × (result.mark.now ≡ listed (format.mark self.now.netlist.bytes.now) (format.modules self.now.netlist.bytes.now)) }
     {
-        self.board_with(&self.mark[..self.netlist.modules()])
+        self.board_with(&self.arrays.mark[..self.netlist.modules()])
     }
 
     // The book as a board with other marks.
@@ -89,12 +139,12 @@ impl<'a> Numbers<'a> {
         let n = self.netlist.nets();
         let p = self.netlist.pins();
         Board {
-            first: &self.first[..n + 1],
-            mods: &self.mods[..p],
-            weight: &self.weight[..n],
-            nets: &self.nets[..p],
-            at: &self.at[..m + 1],
-            pins: &self.pins[..p],
+            first: &self.arrays.first[..n + 1],
+            mods: &self.arrays.mods[..p],
+            weight: &self.arrays.weight[..n],
+            nets: &self.arrays.nets[..p],
+            at: &self.arrays.at[..m + 1],
+            pins: &self.arrays.pins[..p],
             mark,
         }
     }

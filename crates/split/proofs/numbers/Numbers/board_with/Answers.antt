@@ -11,7 +11,7 @@ invariant_of-result-clause-tables c = rw (c.nets-n.ensures, c.pins-p.ensures, c.
 pub invariant_of-result-clause-below : goal.invariant_of-result-clause-below
 invariant_of-result-clause-below c =
     let n = c.args.self.now in
-    λ p l. omega (arith, below_loaded _ (sound_netlist n.netlist) _ (ap (λ (k : ℕ). take k n.mods) c.pins-p.ensures ∙ n.modules) p l, c.requires)
+    λ p l. omega (arith, below_loaded _ (sound_netlist n.netlist) _ (ap (λ (k : ℕ). take k n.arrays.mods) c.pins-p.ensures ∙ n.modules) p l, c.requires)
 
 pub invariant_of-result-clause-light : goal.invariant_of-result-clause-light
 invariant_of-result-clause-light c = rw c.nets-n.ensures c.args.self.now.light
