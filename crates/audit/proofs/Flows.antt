@@ -1,9 +1,7 @@
 -- What a flow beside its netlist gives every call. Assumes nothing.
 use Rattle.std.specs.Prelude.{◌≡◌, List, ℕ, ℤ, true, false, Err}
 use Rattle.book.specs.declared.Refusal.TheVariants.{Buffer, Side}
-use Rattle.book.specs.Sound.{Sound}
 pub use Rattle.book.proofs.Netlists.{sound_netlist}
-use Rattle.book.specs.declared.netlist.Netlist.{Netlist}
 use Rattle.audit.specs.declared.Flowed.{Flowed}
 use Rattle.audit.specs.Rules.{LentFlow}
 use Rattle.side.specs.Given.{is_short, is_good}

@@ -17,7 +17,7 @@ use Rattle.flow.specs.Cards.{card_of}
 use Rattle.flow.specs.Search.{Tables}
 use Rattle.flow.specs.declared.board.Board.{Board}
 use Rattle.flow.proofs.Raised.{zeros_fair}
-use Rattle.split.specs.Boards.{Light, Tabled, Lends}
+use Rattle.split.specs.Boards.{Tabled, Lends}
 use Rattle.split.specs.Solved.{Slices, Begins, Solved}
 use Rattle.split.proofs.SameCard.{firsts_of, mods_of, weights_of, slices_laid, near_slices, far_slices, fair_slices, value_slices, price_slices}
 

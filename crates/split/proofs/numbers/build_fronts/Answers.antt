@@ -1,9 +1,9 @@
 -- `split::numbers::build_fronts` meets its contract: the fronts of the arrays are the book's numbers. Assumes nothing.
-use Rattle.std.specs.Prelude.{◌≡◌, ℕ, ◌+◌, take, length}
+use Rattle.std.specs.Prelude.{ℕ, ◌+◌, take}
 use mathlib.Core.Path.{sym, ap, ◌∙◌}
 use lib.Seq.{length-take-le}
 use native.Mathlib.Omega.{arith}
-use Rattle.split.proofs.Loads.{sound_netlist, few_modules, few_nets, few_pins}
+use Rattle.split.proofs.Loads.{sound_netlist, few_modules, few_pins}
 use Rattle.split.proofs.Loaded.{marks_of, buildable, tables_built}
 use Rattle.split.proofs.numbers.build_fronts.Goals as goal
 
