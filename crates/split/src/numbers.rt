@@ -36,7 +36,7 @@ impl Arrays {
     };
 }
 
-// A book's numbers at the fronts of its arrays. Inlined, this and the next would have the arrays cleared and copied twice.
+// A book's numbers at the fronts of its arrays. Not inlined, nor the next: the arrays would be cleared and copied twice.
 #[inline(never)]
 fn load_fronts(
     netlist: Netlist<'_>,
@@ -99,7 +99,8 @@ pub struct Numbers<'a> {
 }
 
 impl<'a> Numbers<'a> {
-    // Those of a book that reads.
+    // Those of a book that reads. Not inlined: a caller's frame would hold the arrays twice.
+    #[inline(never)]
     pub fn of(netlist: Netlist<'a>) -> Numbers<'a>
         ensures { result.netlist.bytes ≡ netlist.entry.bytes }
     {
