@@ -280,7 +280,8 @@ pub fn is_free(netlist: Netlist<'_>, m: usize) -> bool
     netlist.mark(m).is_free()
 }
 
-// Checks 1 to 6, 8 and 9, on any bytes: the side beside its netlist.
+// Checks 1 to 6, 8 and 9, on any bytes: the side beside its netlist. Inlined, as a frame of its own would stand under each call.
+#[inline(always)]
 fn check<'a>(book: &'a [u8], side: &'a [u8]) -> Result<Sided<'a>, Refusal>
     ensures good { IfOk result (λ s. (s.netlist.bytes ≡ book.entry) × (s.bits ≡ side.entry) × (given book.now side.now ≡ Ok tt)) }
     ensures why { IfErr result (λ why. given book.now side.now ≡ Err why) }
