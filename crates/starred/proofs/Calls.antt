@@ -2,7 +2,7 @@
 use Rattle.std.specs.Prelude.{Result, Ok, Err}
 use mathlib.Core.Path.{◌≡◌, refl, sym, ap, ◌∙◌}
 use mathlib.Core.Bool.{Bool, true, false, not, true≢false}
-use mathlib.Core.List.{List, [], ◌∷◌, ◌++◌, map}
+use mathlib.Core.List.{List, [], map}
 use Prim.Native.Nat.{ℕ, suc}
 use native.Mathlib.Omega.{arith}
 use lib.Dec.{T}
@@ -39,10 +39,10 @@ use Rattle.gate.specs.declared.Verdict.{Verdict}
 use Rattle.walk.specs.declared.Row.{Row}
 use Rattle.walk.specs.Walk.{Outcome, found, none_left, free_to, answer}
 use Rattle.walk.specs.Call as walks
-use Rattle.walk.specs.Call.{Left, Walked, Comes, checked_of, written, side_bytes, row_bytes, rows_bytes, over}
+use Rattle.walk.specs.Call.{Walked, Comes, checked_of, written, side_bytes, rows_bytes}
 use Rattle.walk.proofs.Call.{walked_one}
 use Rattle.walk.proofs.Plain.{run, run_walks}
-use Rattle.starred.specs.Cases.{numbers_in, bytes_in, Call, read, price, move, check, split, walk, Parts, Rounds, Told, refused, parts, Leaves, Drawn, SplitTells, WalkTells, leaves, Tells}
+use Rattle.starred.specs.Cases.{numbers_in, Call, read, price, move, check, split, walk, Parts, Rounds, Told, refused, parts, Leaves, Drawn, SplitTells, WalkTells, leaves, Tells}
 use Rattle.starred.proofs.Bytes.{bytes_side, row_over}
 
 -- ---- the split
@@ -138,23 +138,23 @@ rounds_by (Ok b) true s g = ran s (run_of s g)
 rounds_by (Ok b) false s g = refused (walk g) (number_of refusal.Gate) (place_of refusal.Gate)
 rounds_by (Err why) good s g = refused (walk g) (number_of why) (place_of why)
 
--- the rows of a walk and their numbers are the same bytes
-rows_same : (rs : List Row) → rows_bytes rs ≡ bytes_in (map numbers_in rs)
-unfolding rows_bytes row_bytes bytes_in
-rows_same [] = refl
-rows_same (r ∷ rs) = ap (λ (b : List ℕ). row_bytes r ++ b) (rows_same rs)
+-- the rounds of that walk; of a refusal, none
+abbrev walked_by : Result Book Refusal → Bool → List ℕ → Gate → List Row
+walked_by (Ok b) true s g = (run_of s g).0
+walked_by (Ok b) false s g = []
+walked_by (Err why) good s g = []
 
 module _ (s : List ℕ) (g : Gate) (side rows : List ℕ) (t : T (not (walks.too_short s side rows))) where
-  ran_leaves : (rs : List Row) (o : Outcome) → written s rs o side rows ≡ leaves (ran s (rs, o)) side rows
-  ran_leaves rs (found x) = ap (λ (b : List ℕ). record { answer = answer (card_of s) rs (found x); side = over (side_bytes x (modules s)) side; rows = over b rows }) (rows_same rs)
-  ran_leaves rs none_left = ap (λ (b : List ℕ). record { answer = answer (card_of s) rs none_left; side = side; rows = over b rows }) (rows_same rs)
+  ran_leaves : (rs : List Row) (o : Outcome) → written s rs o side rows ≡ leaves (ran s (rs, o)) rs side rows
+  ran_leaves rs (found x) = refl
+  ran_leaves rs none_left = refl
 
-  walk_allows : Walked s g side rows (leaves (rounds_by (read_of s) (good_gate g) s g) side rows)
-  unfolding checked_of bytes_in
+  walk_allows : Walked s g side rows (leaves (rounds_by (read_of s) (good_gate g) s g) (walked_by (read_of s) (good_gate g) s g) side rows)
+  unfolding checked_of rows_bytes
   walk_allows = go (read_of s) (good_gate g) (walks.too_short s side rows) refl (T_false _ t)
     where
       go : (r : Result Book Refusal) (d w : Bool) → read_of s ≡ r → w ≡ false →
-          Comes (walks.if_read r (walks.refuse_if (not d) refusal.Gate (walks.refuse_if w refusal.Buffer (Ok (book_of s))))) s g side rows (leaves (rounds_by r d s g) side rows)
+          Comes (walks.if_read r (walks.refuse_if (not d) refusal.Gate (walks.refuse_if w refusal.Buffer (Ok (book_of s))))) s g side rows (leaves (rounds_by r d s g) (walked_by r d s g) side rows)
       go (Ok b) true false e u = record {
         rounds = (run_of s g).0;
         outcome = (run_of s g).1;
@@ -166,7 +166,19 @@ module _ (s : List ℕ) (g : Gate) (side rows : List ℕ) (t : T (not (walks.too
       go (Err why) d w e u = refl
 
 walk_tried : (s : List ℕ) (g : Gate) → WalkTells s g (rounds_by (read_of s) (good_gate g) s g)
-walk_tried s g side rows a t = (λ h. walked_one s g side rows a (leaves (rounds_by (read_of s) (good_gate g) s g) side rows) h (walk_allows s g side rows t), λ h. rw h (walk_allows s g side rows t))
+walk_tried s g =
+    let rounds = walked_by (read_of s) (good_gate g) s g in
+    let left = leaves (rounds_by (read_of s) (good_gate g) s g) rounds in
+    record {
+      rounds = rounds;
+      told = numbered (read_of s) (good_gate g);
+      every = λ side rows a t. (λ h. walked_one s g side rows a (left side rows) h (walk_allows s g side rows t), λ h. rw h (walk_allows s g side rows t));
+    }
+  where
+    numbered : (r : Result Book Refusal) (d : Bool) → map numbers_in (walked_by r d s g) ≡ (rounds_by r d s g).rows
+    numbered (Ok b) true = refl
+    numbered (Ok b) false = refl
+    numbered (Err why) d = refl
 
 -- ---- every call
 

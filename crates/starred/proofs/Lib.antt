@@ -2,6 +2,7 @@
 pub mod Tests
 pub mod Told
 pub mod Bytes
+pub mod Rounds
 pub mod Calls
 pub mod Passes
 pub mod Listed

@@ -1,6 +1,6 @@
 -- A case of the desk's table: a book, a call on it and what is expected of it, in document 01's numbers; and what it means that a case holds. This page holds definitions only.
 use Rattle.book.specs.declared.Refusal.{Refusal}
-use Rattle.std.specs.Prelude.{◌≡◌, ◌↔◌, not, List, [], ◌∷◌, ◌++◌, ℕ, T, ℤ, pos, Float, Result}
+use Rattle.std.specs.Prelude.{◌≡◌, ◌↔◌, not, List, [], ◌∷◌, map, ℕ, T, ℤ, pos, Float, Result}
 use Rattle.line.specs.Card as card
 use Rattle.line.specs.Card.{Near, Far, whole_area}
 use Rattle.book.specs.Format.{area}
@@ -18,7 +18,7 @@ use Rattle.gate.specs.declared.Gate.{Gate}
 use Rattle.walk.specs.declared.Row.{Row}
 use Rattle.walk.specs.Walk.{Answer, taken_of, way_of}
 use Rattle.walk.specs.Call as walks
-use Rattle.walk.specs.Call.{Left, Walked, little_endian, over}
+use Rattle.walk.specs.Call.{Left, Walked, rows_bytes, over}
 
 -- ---- What is asked, and what is told.
 
@@ -46,11 +46,6 @@ pub record RowNumbers : Type 0 where
 
 abbrev pub numbers_in : Row → RowNumbers
 numbers_in r = record { price = r.price; area = r.area; taken = taken_of r.turn; way = way_of r.turn }
-
--- Rows of numbers as bytes.
-unfoldable pub bytes_in : List RowNumbers → List ℕ
-bytes_in [] = []
-bytes_in (r ∷ rs) = (little_endian 4 r.price ++ little_endian 4 r.area ++ little_endian 2 r.taken ++ little_endian 2 r.way) ++ bytes_in rs
 
 -- A walk: the numbers of its answer, its rows, and the bytes of its side.
 pub record Rounds : Type 0 where
@@ -126,13 +121,15 @@ pub record SplitTells (s : List ℕ) (t : Parts) : Type 0 where
   pub every : (old new : Buffers) (r : Result ℕ Refusal) → T (not (splits.too_short s old)) → Bytes new.near → Bytes new.far → Split s old r new → Leaves t old r new
   pub page : t.numbers.number ≡ 0 → Drawn s t
 
--- What a walk leaves: the numbers, and the side and the rows written over what their buffers held.
-abbrev pub leaves : Rounds → List ℕ → List ℕ → Left
-leaves t side rows = record { answer = t.numbers; side = over t.side side; rows = over (bytes_in t.rows) rows }
+-- What a walk of these rounds leaves: the numbers, and the side and the rows written over what their buffers held.
+abbrev pub leaves : Rounds → List Row → List ℕ → List ℕ → Left
+leaves t rounds side rows = record { answer = t.numbers; side = over t.side side; rows = over (rows_bytes rounds) rows }
 
--- Whatever the lent buffers, where none is short: the walk's statement allows this, and nothing else.
-abbrev pub WalkTells : List ℕ → Gate → Rounds → Type 0
-WalkTells s g t = (side rows : List ℕ) (a : Left) → T (not (walks.too_short s side rows)) → Walked s g side rows a ↔ (a ≡ leaves t side rows)
+-- The rounds of a walk have the numbers told. And whatever the lent buffers, where none is short: the walk's statement allows what they leave, and nothing else.
+pub record WalkTells (s : List ℕ) (g : Gate) (t : Rounds) : Type 0 where
+  pub rounds : List Row
+  pub told : map numbers_in rounds ≡ t.rows
+  pub every : (side rows : List ℕ) (a : Left) → T (not (walks.too_short s side rows)) → Walked s g side rows a ↔ (a ≡ leaves t rounds side rows)
 
 -- A call on a book tells this, by the call's own statement.
 abbrev pub Tells : List ℕ → (k : Call) → Told k → Type 0
