@@ -10,7 +10,7 @@ use Rattle.walk.specs.declared.Way.TheVariants.{Meter, Maker}
 use Rattle.walk.specs.Walk.{taken_of, way_of}
 use Rattle.starred.specs.Cases.{RowNumbers, numbers_in, Rounds, WalkTells}
 
--- the turn with this module taken and this way
+-- the turn with this module taken and this way, where a turn has them
 abbrev turn_of : ℕ → ℕ → Turn
 turn_of m zero = Stops
 turn_of m (suc zero) = Takes Meter m
@@ -23,7 +23,7 @@ turn_whole (Takes Meter m) = refl
 turn_whole (Takes Maker m) = refl
 turn_whole Ends = refl
 
--- the row with these numbers
+-- the row with these numbers, where a row has them
 abbrev pub row_with : RowNumbers → Row
 row_with n = record { price = n.price; area = n.area; turn = turn_of n.taken n.way }
 
