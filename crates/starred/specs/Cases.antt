@@ -125,7 +125,7 @@ pub record SplitTells (s : List ℕ) (t : Parts) : Type 0 where
 abbrev pub leaves : Rounds → List Row → List ℕ → List ℕ → Left
 leaves t rounds side rows = record { answer = t.numbers; side = over t.side side; rows = over (rows_bytes rounds) rows }
 
--- The rounds of a walk have the numbers told. And whatever the lent buffers, where none is short: the walk's statement allows what they leave, and nothing else.
+-- There are rounds with the numbers told. And whatever the lent buffers, where none is short: the walk's statement allows what these rounds leave, and nothing else.
 pub record WalkTells (s : List ℕ) (g : Gate) (t : Rounds) : Type 0 where
   pub rounds : List Row
   pub told : map numbers_in rounds ≡ t.rows
